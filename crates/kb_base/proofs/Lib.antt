@@ -1,0 +1,7 @@
+pub mod Covered
+pub mod Determined
+pub mod Pieces
+pub mod Sessions
+pub mod Summed
+pub mod Tiled
+pub mod Windows

@@ -1,0 +1,24 @@
+-- Counts of faults. An object of the outside counts its failed calls in a u64, which never falls.
+use Rattle.std.specs.Prelude.{ℕ, ◌≡◌, ◌<◌, ◌+◌, ◌-◌, ◌^◌, min, Result, OnErr, refl}
+
+-- the last value of a count, at which it stands still
+abbrev pub last_count : ℕ
+last_count = 2 ^ 64 - 1
+
+-- a count after one more, which stands still at its last value
+abbrev pub next_count : ℕ → ℕ
+next_count count = min (count + 1) last_count
+
+third : next_count 2 ≡ 3
+third = refl
+
+stands_still : next_count last_count ≡ last_count
+stands_still = refl
+
+-- the count rose; one that stands at its last value counts as risen
+abbrev pub Rose : ℕ → ℕ → Type 0
+Rose old new = new < last_count → old < new
+
+-- a call fails only where the count rose
+abbrev pub HasCause : {A E : Type 0} → ℕ → ℕ → Result A E → Type 0
+HasCause old new result = OnErr result (Rose old new)

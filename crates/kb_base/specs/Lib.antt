@@ -1,0 +1,5 @@
+pub mod Faults
+pub mod Runs
+pub mod Lines
+pub mod Machine
+pub mod Stream

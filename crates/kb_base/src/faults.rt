@@ -1,0 +1,65 @@
+//! Counts of faults.
+ghost use Rattle.std.specs.Prelude.{◌≡◌, ◌≤◌};
+ghost use Rattle.kb_base.specs.Faults.{next_count, Rose};
+
+use crate::Failed;
+use std::marker::Model;
+
+/// How many calls of an object have failed: a u64, which never falls and stands still at its last value.
+#[derive(Clone, Copy, Debug, PartialEq, Eq)]
+pub struct FaultCount {
+    count: u64,
+}
+
+impl Model for FaultCount {
+    ghost use Rattle.std.specs.Prelude.{ℕ};
+
+    ghost Value = { ℕ };
+
+    ghost view = { λ faults. faults.count };
+
+    ghost inverse = { λ count. record { count = count } };
+}
+
+impl FaultCount {
+    /// No call has failed.
+    pub fn new() -> FaultCount
+        ensures { result ≡ 0 }
+    {
+        FaultCount { count: 0 }
+    }
+
+    /// Counts a call that failed.
+    pub fn fail(&mut self) -> Failed
+        ensures counted { self.new ≡ next_count self.old }
+        ensures rose { Rose self.old self.new }
+        ensures rising { self.old ≤ self.new }
+    {
+        self.count = self.count.saturating_add(1);
+        Failed
+    }
+
+    /// How many calls have failed.
+    pub fn number(self) -> u64
+        ensures { result ≡ self }
+    {
+        self.count
+    }
+}
+
+#[cfg(test)]
+mod tests {
+    use super::*;
+
+    #[test]
+    fn failed_calls_are_counted(rt: HostRuntime) {
+        let mut faults = FaultCount::new();
+        for count in 1..4 {
+            assert_eq!(rt; faults.fail(), Failed);
+            assert_eq!(rt; faults.number(), count);
+        }
+        let mut last = FaultCount { count: u64::MAX };
+        assert_eq!(rt; last.fail(), Failed);
+        assert_eq!(rt; last.number(), u64::MAX);
+    }
+}
