@@ -1,0 +1,6 @@
+pub mod Months
+pub mod CivilDates
+pub mod Reaches
+pub mod Digits
+pub mod CivilTexts
+pub mod ReadDates

@@ -1,0 +1,180 @@
+//! Numbers of days, each in the range that its type says.
+ghost use Rattle.std.specs.Prelude.{◌≡◌, ◌≤◌, ◌↔◌, ℕ, IsSome, IfSome};
+ghost use Rattle.kb_days.specs.Calendar.{first_day, last_day, first_reach, last_reach};
+
+use std::marker::Model;
+
+/// A day that a command may name: a number of days from 1970-01-01, from 10957 (2000-01-01) to
+/// 47481 (2099-12-31).
+#[derive(Clone, Copy, Debug, PartialEq, Eq, Hash, PartialOrd, Ord)]
+pub struct Day {
+    number: u32,
+}
+
+impl Model for Day {
+    ghost Value = { ℕ };
+
+    ghost view = { λ day. day.number };
+
+    ghost invariant = { λ day. (first_day ≤ day.number) × (day.number ≤ last_day) };
+
+    ghost inverse = { λ number. record { number = number } };
+}
+
+impl Day {
+    /// The day with this number; none outside 10957 to 47481.
+    pub fn new(number: u32) -> Option<Day>
+        ensures accepted { IsSome result ↔ ((first_day ≤ number) × (number ≤ last_day)) }
+        ensures value { IfSome result (λ day. day ≡ number) }
+    {
+        if (10957..=47481).contains(&number) {
+            Some(Day { number })
+        } else {
+            None
+        }
+    }
+
+    /// Days from 1970-01-01.
+    pub fn number(self) -> u32
+        ensures value { result ≡ self }
+        ensures first { first_day ≤ result }
+        ensures last { result ≤ last_day }
+    {
+        self.number
+    }
+
+    /// The same day, among those that may follow from it.
+    pub fn reach(self) -> Reach
+        ensures value { result ≡ self }
+        ensures first { first_day ≤ result }
+        ensures last { result ≤ last_day }
+    {
+        Reach {
+            number: self.number,
+        }
+    }
+}
+
+/// A day that may follow from a named one, such as the end of a period: a number of days from
+/// 1970-01-01, from 10000 (1997-05-19) to 49000 (2104-02-28).
+#[derive(Clone, Copy, Debug, PartialEq, Eq, Hash, PartialOrd, Ord)]
+pub struct Reach {
+    number: u32,
+}
+
+impl Model for Reach {
+    ghost Value = { ℕ };
+
+    ghost view = { λ day. day.number };
+
+    ghost invariant = { λ day. (first_reach ≤ day.number) × (day.number ≤ last_reach) };
+
+    ghost inverse = { λ number. record { number = number } };
+}
+
+impl Reach {
+    /// The day with this number; none outside 10000 to 49000.
+    pub fn new(number: u32) -> Option<Reach>
+        ensures accepted { IsSome result ↔ ((first_reach ≤ number) × (number ≤ last_reach)) }
+        ensures value { IfSome result (λ day. day ≡ number) }
+    {
+        if (10000..=49000).contains(&number) {
+            Some(Reach { number })
+        } else {
+            None
+        }
+    }
+
+    /// The day with this number.
+    pub(crate) fn within(number: u32) -> Reach
+        requires first { first_reach ≤ number }
+        requires last { number ≤ last_reach }
+        ensures { result ≡ number }
+    {
+        Reach { number }
+    }
+
+    /// Days from 1970-01-01.
+    pub fn number(self) -> u32
+        ensures value { result ≡ self }
+        ensures first { first_reach ≤ result }
+        ensures last { result ≤ last_reach }
+    {
+        self.number
+    }
+}
+
+/// A billing cycle day: the number of a day in its month, 1 to 31.
+#[derive(Clone, Copy, Debug, PartialEq, Eq, Hash, PartialOrd, Ord)]
+pub struct Bcd {
+    number: u32,
+}
+
+impl Model for Bcd {
+    ghost Value = { ℕ };
+
+    ghost view = { λ bcd. bcd.number };
+
+    ghost invariant = { λ bcd. (1 ≤ bcd.number) × (bcd.number ≤ 31) };
+
+    ghost inverse = { λ number. record { number = number } };
+}
+
+impl Bcd {
+    /// The cycle day with this number; none outside 1 to 31.
+    pub fn new(number: u32) -> Option<Bcd>
+        ensures accepted { IsSome result ↔ ((1 ≤ number) × (number ≤ 31)) }
+        ensures value { IfSome result (λ bcd. bcd ≡ number) }
+    {
+        if (1..=31).contains(&number) {
+            Some(Bcd { number })
+        } else {
+            None
+        }
+    }
+
+    /// The number of the day in its month.
+    pub fn number(self) -> u32
+        ensures value { result ≡ self }
+        ensures first { 1 ≤ result }
+        ensures last { result ≤ 31 }
+    {
+        self.number
+    }
+}
+
+#[cfg(test)]
+mod tests {
+    use super::*;
+    use std::test::Fail;
+
+    #[test]
+    fn numbers_at_the_ends_of_each_range(rt: HostRuntime) -> Result<(), Fail> {
+        // number, and whether it is one of a day, of a reach and of a cycle day
+        let cases = [
+            (0, false, false, false),
+            (1, false, false, true),
+            (31, false, false, true),
+            (32, false, false, false),
+            (9_999, false, false, false),
+            (10_000, false, true, false),
+            (10_956, false, true, false),
+            (10_957, true, true, false),
+            (47_481, true, true, false),
+            (47_482, false, true, false),
+            (49_000, false, true, false),
+            (49_001, false, false, false),
+            (u32::MAX, false, false, false),
+        ];
+        for (number, is_day, is_reach, is_bcd) in cases {
+            assert_eq!(rt; Day::new(number).is_some(), is_day, "day {number}");
+            assert_eq!(rt; Reach::new(number).is_some(), is_reach, "reach {number}");
+            assert_eq!(rt; Bcd::new(number).is_some(), is_bcd, "cycle day {number}");
+        }
+        let day = Day::new(19_792).ok_or("a day")?;
+        assert_eq!(rt; day.number(), 19_792);
+        assert_eq!(rt; day.reach().number(), 19_792);
+        assert_eq!(rt; Bcd::new(31).ok_or("a cycle day")?.number(), 31);
+        Ok(())
+    }
+}
