@@ -1,0 +1,2 @@
+pub mod Currency
+pub mod Proration

@@ -1,0 +1,73 @@
+//! Currencies.
+ghost use Rattle.std.specs.Prelude.{◌≡◌, ◌↔◌, List, ℕ, Some, IsSome, IfSome};
+ghost use Rattle.kb_money.specs.Currency.{IsCurrency};
+
+use std::marker::Model;
+use std::{fmt, str};
+
+/// A currency: the three capitals of its code, such as `USD`.
+#[derive(Clone, Copy, Debug, PartialEq, Eq, Hash, PartialOrd, Ord)]
+pub struct Currency {
+    letters: [u8; 3],
+}
+
+impl Model for Currency {
+    ghost Value = { List ℕ };
+
+    ghost view = { λ currency. currency.letters };
+
+    ghost invariant = { λ currency. IsCurrency currency.letters };
+
+    ghost inverse = { λ letters. record { letters = letters } };
+}
+
+impl Currency {
+    /// The currency with this code; none unless it is three capitals, A to Z.
+    pub fn new(bytes: &[u8]) -> Option<Currency>
+        ensures accepted { IsSome result ↔ IsCurrency bytes.now }
+        ensures value { IfSome result (λ currency. currency ≡ bytes.now) }
+    {
+        let letters = <[u8; 3]>::try_from(bytes).ok()?;
+        if letters.iter().all(|letter| letter.is_ascii_uppercase()) {
+            Some(Currency { letters })
+        } else {
+            None
+        }
+    }
+
+    /// The three capitals of the code.
+    pub fn as_bytes(&self) -> &[u8]
+        ensures value { result.now ≡ self.now }
+        ensures code { IsCurrency result.now }
+    {
+        &self.letters
+    }
+}
+
+impl fmt::Display for Currency {
+    ghost output = { λ currency. Some currency };
+
+    #[tactic(auto, using(crate::proofs::CodeText::code_text))]
+    fn fmt<W: fmt::Write>(&self, f: &mut fmt::Formatter<W>) -> fmt::Result {
+        f.write_str(str::from_utf8(&self.letters).unwrap())
+    }
+}
+
+#[cfg(test)]
+mod tests {
+    use super::*;
+    use std::test::Fail;
+
+    #[test]
+    fn codes_of_currencies(rt: HostRuntime) -> Result<(), Fail> {
+        for code in ["USD", "AAA", "ZZZ"] {
+            let currency = Currency::new(code.as_bytes()).ok_or("a currency")?;
+            assert_eq!(rt; currency.as_bytes(), code.as_bytes());
+            assert_eq!(rt; currency.to_string(rt.alloc())?.as_str(), code);
+        }
+        for other in ["", "US", "USDT", "usd", "US1", "US[", "US@", "É1"] {
+            assert_eq!(rt; Currency::new(other.as_bytes()), None, "{other}");
+        }
+        Ok(())
+    }
+}
