@@ -1,0 +1,90 @@
+-- Months are periods: neighbouring boundaries with the day between them.
+use Rattle.std.proofs.Common.{◌≡◌, ℕ, ◌+◌, ◌<◌, ◌≤◌, refl, sym, ap, ◌∙◌, arith}
+use Rattle.kb_days.specs.Calendar.{first_day, month_start, month_of, month_length}
+use Rattle.kb_days.proofs.Months.{mark-first, month_length-high, month_start-suc, month_start-rises, month_start-order}
+use Rattle.kb_days.proofs.Months.{month_of-began, month_of-not_over, month_of-only, month_of-rises}
+use Rattle.kb_due.specs.FirstDue.{period_start, period_end, last_cell_day, IsPeriod}
+
+january_2000 : month_start 360 ≡ 10957
+unfolding month_start month_length
+january_2000 = refl
+
+february_2102 : month_start 1585 ≡ 48243
+unfolding month_start month_length
+february_2102 = refl
+
+-- the days that a command may name lie in or after January 2000
+pub month_of-first_day : (day : ℕ) → first_day ≤ day → 360 ≤ month_of day
+month_of-first_day day h =
+    let order = month_start-order 360 (month_of day + 1) (omega (arith, january_2000, month_of-not_over day)) in
+    omega (arith, order)
+
+-- the days on which something may be due lie in or before January 2102
+pub month_of-last_cell_day : (day : ℕ) → day ≤ last_cell_day → month_of day ≤ 1584
+month_of-last_cell_day day h =
+    let order = month_start-order (month_of day) 1585 (omega (arith, february_2102, month_of-began day)) in
+    omega (arith, order)
+
+-- a month that begins on or before a day begins no later than the day's month
+month_start-last : (day month : ℕ) → month_start month ≤ day → month_start month ≤ period_start day
+month_start-last day month h =
+    let order = month_start-order month (month_of day + 1) (omega (arith, month_of-not_over day)) in
+    month_start-rises month (month_of day) (omega (arith, order))
+
+-- a month that begins after a day begins no earlier than the next month
+month_start-next : (day month : ℕ) → day < month_start month → period_end day ≤ month_start month
+month_start-next day month h =
+    let order = month_start-order (month_of day) month (omega (arith, month_of-began day)) in
+    month_start-rises (month_of day + 1) month (omega (arith, order))
+
+-- the month of a day is its period
+pub month-IsPeriod : (day : ℕ) → IsPeriod (period_start day) (period_end day) day
+month-IsPeriod day = record {
+  starts = (month_of day, sym (mark-first (month_of day)));
+  ends = (month_of day + 1, sym (mark-first (month_of day + 1)));
+  began = month_of-began day;
+  not_over = month_of-not_over day;
+  last_before = λ boundary is_boundary h.
+      let first = is_boundary.1 ∙ mark-first is_boundary.0 in
+      omega (arith, first, month_start-last day is_boundary.0 (omega (arith, first)));
+  first_after = λ boundary is_boundary h.
+      let first = is_boundary.1 ∙ mark-first is_boundary.0 in
+      omega (arith, first, month_start-next day is_boundary.0 (omega (arith, first)));
+}
+
+-- a day has one period
+pub IsPeriod-only : (day start end first last : ℕ) → IsPeriod start end day → IsPeriod first last day
+    → (start ≡ first) × (end ≡ last)
+IsPeriod-only day start end first last one other =
+    let starts : start ≡ first = omega (arith, one.last_before first other.starts other.began, other.last_before start one.starts one.began) in
+    let ends : end ≡ last = omega (arith, one.first_after last other.ends other.not_over, other.first_after end one.ends one.not_over) in
+    (starts, ends)
+
+-- a period has at most 31 days
+pub period_end-high : (day : ℕ) → period_end day ≤ period_start day + 31
+period_end-high day = omega (arith, month_start-suc (month_of day), month_length-high (month_of day))
+
+-- two days of one period have the same start of it
+pub period_start-within : (day other : ℕ) → period_start day ≤ other → other < period_end day
+    → period_start other ≡ period_start day
+period_start-within day other began over = ap month_start (month_of-only other (month_of day) began over)
+
+-- and the same end
+pub period_end-within : (day other : ℕ) → period_start day ≤ other → other < period_end day
+    → period_end other ≡ period_end day
+period_end-within day other began over =
+    ap (λ month. month_start (month + 1)) (month_of-only other (month_of day) began over)
+
+-- a later day lies in no earlier period
+pub period_start-rises : (day later : ℕ) → day ≤ later → period_start day ≤ period_start later
+period_start-rises day later h = month_start-rises (month_of day) (month_of later) (month_of-rises day later h)
+
+-- a day on or after the end of another's period lies in a period that starts there or later
+pub period_start-after : (day later : ℕ) → period_end day ≤ later → period_end day ≤ period_start later
+period_start-after day later h = month_start-last later (month_of day + 1) h
+
+-- the months of days on which something may be due, and where they start
+pub ruleset months = (month_of-first_day, month_of-last_cell_day, mark-first)
+
+-- each day has a period
+pub ruleset periods = (month-IsPeriod)
