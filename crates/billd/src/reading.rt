@@ -1,0 +1,199 @@
+//! Runs of a machine over the lines of a source, whose answers go to a sink.
+//!
+//! The input is read in chunks. What always holds between two of them:
+//!
+//! 1. *Answered*: the lines that have ended are answered, in order, and their answers are written.
+//! 2. *Pending*: the bytes behind the last line feed are kept, and are at most 65,536.
+ghost use Rattle.std.specs.Prelude.{◌≡◌, ◌≤◌, ◌++◌, ◌∷◌, List, ℕ, [], OnOk, OnErr, IfErr};
+ghost use Rattle.kb_base.specs.Faults.{Rose};
+ghost use Rattle.kb_base.specs.Lines.{is_line};
+ghost use Rattle.kb_base.specs.Stream.{EndsPiece, Moves, Writes};
+ghost use Rattle.billd.specs.declared.stop.Stop.TheVariants.{Input, Output};
+ghost use Rattle.billd.specs.Reading.{Ends, StopsBy, StopsAtByte, StopsAmong, BreaksAmong, StopsAtLast};
+
+use crate::Stop;
+use kb_ports::{Failed, NoMemory, Sink, Source, write_all};
+use std::alloc::Global;
+
+/// The most bytes that a line may have.
+pub const LONGEST_LINE: usize = 65_536;
+
+/// The bytes at which a run is stopped: 2^40.
+pub const INPUT_BOUND: u64 = 1 << 40;
+
+/// How many bytes are read at a time.
+const CHUNK: usize = 8_192;
+
+/// A machine that answers lines.
+pub trait LineMachine {
+    /// In a state and to a line, it may say a text and go on in another state.
+    ghost step: { Self → List ℕ → List ℕ → Self → Type 0 };
+
+    /// Answers a line, which has no line feed, at the end of `said`. An `Err` leaves both as they were.
+    fn answer(&mut self, alloc: Global, line: &[u8], said: &mut Vec<u8>) -> Result<(), NoMemory>
+        ensures ok { OnOk result ((text : List ℕ)
+            × (said.new.items ≡ said.old.items ++ text) × step self.old line.now text self.new) }
+        ensures err { OnErr result ((self.new ≡ self.old) × (said.new.items ≡ said.old.items)) };
+}
+
+/// Runs a machine over the lines of a source until the input ends, and writes its answers to a sink.
+pub fn run_lines<M: LineMachine, I: Source, O: Sink>(
+    alloc: Global,
+    machine: &mut M,
+    input: &mut I,
+    output: &mut O,
+) -> Result<(), Stop>
+    ensures ok { OnOk result (Ends M.step machine.old (I.left input.old) (I.left input.new)
+        (O.written output.old) (O.written output.new) machine.new) }
+    ensures err { IfErr result (λ stop. StopsBy M.step machine.old stop
+        (I.left input.old) (I.left input.new) (O.written output.old) (O.written output.new) machine.new) }
+    ensures input_fault { result ≡ Err Input → Rose (I.faults input.old) (I.faults input.new) }
+    ensures output_fault { result ≡ Err Output → Rose (O.faults output.old) (O.faults output.new) }
+    ensures input_rising { I.faults input.old ≤ I.faults input.new }
+    ensures output_rising { O.faults output.old ≤ O.faults output.new }
+{
+    let mut pending = Vec::new(alloc);
+    let mut chunk = [0; CHUNK];
+    let mut seen: u64 = 0;
+    'reads: while seen < INPUT_BOUND {
+        let count = match input.read(&mut chunk) {
+            Ok(count) => count,
+            Err(Failed) => return Err(Stop::Input),
+        };
+        if count == 0 {
+            if let Err(stop) = finish(alloc, machine, &mut pending, output) {
+                return Err(stop);
+            }
+            return Ok(());
+        }
+        if let Err(stop) = feed(alloc, machine, &mut pending, &chunk[..count], output) {
+            return Err(stop);
+        }
+        seen += count as u64;
+    }
+    Err(Stop::InputTooLong)
+}
+
+/// A piece between line feeds is a line unless it is empty or a lone carriage return.
+fn is_line(piece: &[u8]) -> bool
+    ensures { result ≡ is_line piece.now }
+{
+    match piece {
+        [] => false,
+        [byte] => *byte != b'\r',
+        _ => true,
+    }
+}
+
+/// Answers the pending piece, if it is a line.
+fn end_piece<M: LineMachine>(
+    alloc: Global,
+    machine: &mut M,
+    pending: &mut Vec<u8>,
+    said: &mut Vec<u8>,
+) -> Result<(), NoMemory>
+    ensures ok { OnOk result ((text : List ℕ) × (said.new.items ≡ said.old.items ++ text)
+        × EndsPiece M.step machine.old pending.old.items machine.new text × (pending.new.items ≡ [])) }
+    ensures err { OnErr result ((machine.new ≡ machine.old)
+        × (pending.new.items ≡ pending.old.items) × (said.new.items ≡ said.old.items)) }
+{
+    if is_line(pending.as_slice()) {
+        machine.answer(alloc, pending.as_slice(), said)?;
+    }
+    pending.clear();
+    Ok(())
+}
+
+/// Takes the next byte. An `Err` leaves all as it was.
+fn take_byte<M: LineMachine>(
+    alloc: Global,
+    machine: &mut M,
+    pending: &mut Vec<u8>,
+    byte: u8,
+    said: &mut Vec<u8>,
+) -> Result<(), Stop>
+    ensures ok { OnOk result ((text : List ℕ) × (said.new.items ≡ said.old.items ++ text)
+        × Moves M.step machine.old pending.old.items (byte ∷ []) machine.new pending.new.items text) }
+    ensures err { OnErr result ((machine.new ≡ machine.old)
+        × (pending.new.items ≡ pending.old.items) × (said.new.items ≡ said.old.items)) }
+    ensures cause { IfErr result (λ stop. StopsAtByte pending.old.items byte stop) }
+{
+    if byte == b'\n' {
+        Ok(end_piece(alloc, machine, pending, said)?)
+    } else if pending.len() >= LONGEST_LINE {
+        Err(Stop::LineTooLong)
+    } else {
+        Ok(pending.push(byte)?)
+    }
+}
+
+/// Takes some bytes, one after another.
+fn take_bytes<M: LineMachine>(
+    alloc: Global,
+    machine: &mut M,
+    pending: &mut Vec<u8>,
+    bytes: &[u8],
+    said: &mut Vec<u8>,
+) -> Result<(), Stop>
+    ensures ok { OnOk result ((text : List ℕ) × (said.new.items ≡ said.old.items ++ text)
+        × Moves M.step machine.old pending.old.items bytes.now machine.new pending.new.items text) }
+    ensures err { IfErr result (λ stop. (text : List ℕ) × (said.new.items ≡ said.old.items ++ text)
+        × StopsAmong M.step machine.old pending.old.items bytes.now stop machine.new pending.new.items text) }
+{
+    for byte in bytes {
+        if let Err(stop) = take_byte(alloc, machine, pending, *byte, said) {
+            return Err(stop);
+        }
+    }
+    Ok(())
+}
+
+/// Takes some bytes, and writes the answers to the lines that they end. Where the machine gives up
+/// among them, what was answered before is still written.
+fn feed<M: LineMachine, O: Sink>(
+    alloc: Global,
+    machine: &mut M,
+    pending: &mut Vec<u8>,
+    bytes: &[u8],
+    output: &mut O,
+) -> Result<(), Stop>
+    ensures ok { OnOk result (Writes (O.written output.old) (O.written output.new)
+        (λ text. Moves M.step machine.old pending.old.items bytes.now machine.new pending.new.items text)) }
+    ensures err { IfErr result (λ stop. Writes (O.written output.old) (O.written output.new)
+        (λ text. BreaksAmong M.step machine.old pending.old.items bytes.now stop machine.new pending.new.items text)) }
+    ensures input { result ≡ Err Input → ⊥ }
+    ensures output { result ≡ Err Output → Rose (O.faults output.old) (O.faults output.new) }
+    ensures rising { O.faults output.old ≤ O.faults output.new }
+{
+    let mut said = Vec::new(alloc);
+    let taken = take_bytes(alloc, machine, pending, bytes, &mut said);
+    match write_all(output, said.as_slice()) {
+        Ok(()) => taken,
+        Err(Failed) => Err(Stop::Output),
+    }
+}
+
+/// Answers the last piece, which no line feed has ended, if it is a line.
+fn finish<M: LineMachine, O: Sink>(
+    alloc: Global,
+    machine: &mut M,
+    pending: &mut Vec<u8>,
+    output: &mut O,
+) -> Result<(), Stop>
+    ensures ok { OnOk result (Writes (O.written output.old) (O.written output.new)
+        (λ text. EndsPiece M.step machine.old pending.old.items machine.new text)) }
+    ensures err { IfErr result (λ stop. Writes (O.written output.old) (O.written output.new)
+        (λ text. StopsAtLast M.step machine.old pending.old.items stop machine.new text)) }
+    ensures input { result ≡ Err Input → ⊥ }
+    ensures output { result ≡ Err Output → Rose (O.faults output.old) (O.faults output.new) }
+    ensures rising { O.faults output.old ≤ O.faults output.new }
+{
+    let mut said = Vec::new(alloc);
+    if let Err(NoMemory) = end_piece(alloc, machine, pending, &mut said) {
+        return Err(Stop::Memory);
+    }
+    match write_all(output, said.as_slice()) {
+        Ok(()) => Ok(()),
+        Err(Failed) => Err(Stop::Output),
+    }
+}
