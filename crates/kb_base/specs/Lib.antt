@@ -2,4 +2,5 @@ pub mod Faults
 pub mod Runs
 pub mod Lines
 pub mod Machine
+pub mod Offenders
 pub mod Stream

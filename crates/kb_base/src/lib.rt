@@ -7,6 +7,8 @@
 
 mod fault;
 mod faults;
+mod seq;
 
 pub use fault::{Failed, NoMemory};
 pub use faults::FaultCount;
+pub use seq::Seq;

@@ -4,3 +4,5 @@ pub mod Reaches
 pub mod Digits
 pub mod CivilTexts
 pub mod ReadDates
+pub mod LaterDays
+pub mod NameBytes

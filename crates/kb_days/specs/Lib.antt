@@ -1,2 +1,5 @@
 pub mod Calendar
 pub mod DateText
+pub mod Names
+pub mod Periods
+pub mod Adding

@@ -16,7 +16,7 @@ pub fn mark(month: u32, bcd: Bcd) -> Reach
     ensures value { result ≡ mark month bcd }
     ensures in_month { (month_start month ≤ result) × (result < month_start (month + 1)) }
 {
-    Reach::within(marked_date(month, bcd).days_since_min() - DAYS_BEFORE_1970)
+    Reach::within(marked(month, bcd))
 }
 
 /// The month in which a day lies, counted from January 1970, which is 0.
@@ -45,9 +45,17 @@ pub fn day_of_month(day: Reach) -> u32
     u32::from(date_of(day).day)
 }
 
+/// The number of the day that a cycle day marks in a month, up to February 2104.
+pub(crate) fn marked(month: u32, bcd: Bcd) -> u32
+    requires { month ≤ 1609 }
+    ensures { result ≡ mark month bcd }
+{
+    marked_date(month, bcd).days_since_min() - DAYS_BEFORE_1970
+}
+
 /// The date of the day that a cycle day marks in a month.
 fn marked_date(month: u32, bcd: Bcd) -> Date
-    requires { month ≤ 1608 }
+    requires { month ≤ 1609 }
     ensures { epoch_day result ≡ pos (mark month bcd) }
 {
     Date::constrain(
@@ -59,7 +67,7 @@ fn marked_date(month: u32, bcd: Bcd) -> Date
 
 /// The civil year of a month that is counted from January 1970.
 fn year_of_month(month: u32) -> i16
-    requires { month ≤ 1608 }
+    requires { month ≤ 1609 }
     ensures { result ≡ pos (1970 + month / 12) }
 {
     (1970 + month / 12) as i16

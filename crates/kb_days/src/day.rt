@@ -133,6 +133,15 @@ impl Bcd {
         }
     }
 
+    /// The cycle day with this number.
+    pub(crate) fn within(number: u32) -> Bcd
+        requires first { 1 ≤ number }
+        requires last { number ≤ 31 }
+        ensures { result ≡ number }
+    {
+        Bcd { number }
+    }
+
     /// The number of the day in its month.
     pub fn number(self) -> u32
         ensures value { result ≡ self }

@@ -1,0 +1,98 @@
+//! Lists that contracts see as their members alone.
+ghost use Rattle.std.specs.Prelude.{◌≡◌, ◌↔◌, ◌++◌, ◌∷◌, [], length, IsTrue, OnErr, OnOk};
+
+use crate::NoMemory;
+use std::alloc::Global;
+use std::marker::Model;
+
+/// A list, seen as its members. It is made from a `Vec` and gives it back without taking memory.
+#[derive(Debug, Drop)]
+pub struct Seq<T> {
+    items: Vec<T>,
+}
+
+impl<T> Model for Seq<T> {
+    ghost use Rattle.std.specs.Prelude.{List};
+
+    ghost Value = { List T };
+
+    ghost view = { λ seq. seq.items.items };
+}
+
+impl<T> Seq<T> {
+    /// A list without a member.
+    pub fn new(alloc: Global) -> Seq<T>
+        ensures { result ≡ [] }
+    {
+        Seq {
+            items: Vec::new(alloc),
+        }
+    }
+
+    /// The list of these members.
+    pub fn from_vec(items: Vec<T>) -> Seq<T>
+        ensures { result ≡ items.items }
+    {
+        Seq { items }
+    }
+
+    /// The members.
+    pub fn into_vec(self) -> Vec<T>
+        ensures { result.items ≡ self }
+    {
+        self.items
+    }
+
+    /// The members.
+    pub fn as_slice(&self) -> &[T]
+        ensures { result.now ≡ self.now }
+    {
+        self.items.as_slice()
+    }
+
+    /// How many members there are.
+    pub fn len(&self) -> usize
+        ensures { result ≡ length self.now }
+    {
+        self.items.len()
+    }
+
+    /// Whether there is none.
+    pub fn is_empty(&self) -> bool
+        ensures { IsTrue result ↔ (self.now ≡ []) }
+    {
+        self.items.is_empty()
+    }
+
+    /// Adds a member at the end. An `Err` leaves the list as it was.
+    pub fn push(&mut self, item: T) -> Result<(), NoMemory>
+    where
+        T: Drop,
+        ensures ok { OnOk result (self.new ≡ self.old ++ item ∷ []) }
+        ensures err { OnErr result (self.new ≡ self.old) }
+    {
+        Ok(self.items.push(item)?)
+    }
+}
+
+#[cfg(test)]
+mod tests {
+    use super::*;
+    use std::test::Fail;
+
+    #[test]
+    fn members_stand_in_the_order_in_which_they_came(rt: HostRuntime) -> Result<(), Fail> {
+        let alloc = rt.alloc();
+        let mut seq = Seq::new(alloc);
+        assert!(rt; seq.is_empty());
+        seq.push(5u8)?;
+        seq.push(6)?;
+        seq.push(5)?;
+        assert!(rt; !seq.is_empty());
+        assert_eq!(rt; seq.len(), 3);
+        assert_eq!(rt; seq.as_slice(), [5u8, 6, 5].as_slice());
+        let members = seq.into_vec();
+        assert_eq!(rt; Seq::from_vec(members).as_slice(), [5u8, 6, 5].as_slice());
+        Ok(())
+    }
+}
