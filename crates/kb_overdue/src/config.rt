@@ -1,0 +1,270 @@
+//! The overdue states of a shop.
+ghost use Rattle.std.specs.Prelude.{◌≡◌, ◌<◌, ◌≤◌, ◌↔◌, length, Err, Some, IsOk, IfOk};
+ghost use Rattle.std.specs.List.{list_any};
+ghost use Rattle.kb_overdue.specs.declared.config.ConfigFault.{ConfigFault};
+ghost use Rattle.kb_overdue.specs.declared.config.ConfigRule.TheVariants.{Names, Conditions};
+ghost use Rattle.kb_overdue.specs.ConfigRules.{most_states, has_name_of, is_unconditional, is_broken_at, first_offender, fault_of, rule_number, AreStates};
+
+use crate::OverdueState;
+use kb_base::Seq;
+use std::marker::Model;
+
+/// The most states that there may be.
+const MOST_STATES: usize = 16;
+
+/// A rule that overdue states have to keep. They are tried in this order.
+#[derive(Clone, Copy, Debug, PartialEq, Eq, Hash, PartialOrd, Ord)]
+pub enum ConfigRule {
+    /// 1: there are at most 16 states.
+    Count,
+    /// 2: no two states have one name, and none is named CLEAR.
+    Names,
+    /// 3: each state has a condition.
+    Conditions,
+}
+
+/// The first rule that some states break, and the place, from 0, of the first offender (16 for too many).
+#[derive(Clone, Copy, Debug, PartialEq, Eq)]
+pub struct ConfigFault {
+    pub rule: ConfigRule,
+    pub index: u32,
+}
+
+/// The overdue states of a shop, from the most severe, with the three rules kept.
+#[derive(Debug, Drop)]
+pub struct Config {
+    states: Seq<OverdueState>,
+}
+
+impl Model for Config {
+    ghost use Rattle.std.specs.Prelude.{List};
+    ghost use Rattle.kb_overdue.specs.declared.state.OverdueState.{OverdueState};
+    ghost use Rattle.kb_overdue.specs.ConfigRules.{AreStates};
+
+    ghost Value = { List OverdueState };
+
+    ghost view = { λ config. config.states };
+
+    ghost invariant = { λ config. AreStates config.states };
+}
+
+impl ConfigRule {
+    /// The number by which the rule is told: 1 to 3.
+    pub fn number(self) -> u32
+        ensures { result ≡ rule_number self }
+    {
+        match self {
+            ConfigRule::Count => 1,
+            ConfigRule::Names => 2,
+            ConfigRule::Conditions => 3,
+        }
+    }
+}
+
+impl Config {
+    /// These states, if they keep the three rules; else the first rule that they break, and its first
+    /// offender. It takes no memory.
+    pub fn check(states: Vec<OverdueState>) -> Result<Config, ConfigFault>
+        ensures valid { IsOk result ↔ AreStates states.items }
+        ensures same { IfOk result (λ config. config ≡ states.items) }
+        ensures fault { (fault : ConfigFault)
+            → ((result ≡ Err fault) ↔ (fault_of states.items ≡ Some fault)) }
+    {
+        match fault_of(&states) {
+            Some(fault) => Err(fault),
+            None => Ok(Config {
+                states: Seq::from_vec(states),
+            }),
+        }
+    }
+
+    /// The states, from the most severe.
+    #[tactic(auto, using(crate::proofs::KeptRules::few_states))]
+    pub fn states(&self) -> &[OverdueState]
+        ensures same { result.now ≡ self.now }
+        ensures valid { AreStates result.now }
+        ensures few { length result.now ≤ 16 }
+    {
+        self.states.as_slice()
+    }
+}
+
+/// The fault of some states.
+#[tactic(auto, using(crate::proofs::ToldFaults::told))]
+fn fault_of(states: &[OverdueState]) -> Option<ConfigFault>
+    ensures { result ≡ fault_of states.now }
+{
+    if states.len() > MOST_STATES {
+        return Some(ConfigFault {
+            rule: ConfigRule::Count,
+            index: MOST_STATES as u32,
+        });
+    }
+    if let Some(index) = first_badly_named(states) {
+        return Some(ConfigFault {
+            rule: ConfigRule::Names,
+            index,
+        });
+    }
+    if let Some(index) = first_unconditional(states) {
+        return Some(ConfigFault {
+            rule: ConfigRule::Conditions,
+            index,
+        });
+    }
+    None
+}
+
+/// The place of the first state whose name stands earlier or is CLEAR.
+#[tactic(auto, using(crate::proofs::FirstPlaces::places))]
+fn first_badly_named(states: &[OverdueState]) -> Option<u32>
+    requires few { length states.now ≤ most_states }
+    ensures { result ≡ first_offender states.now Names }
+{
+    for place in 0..states.len() {
+        if is_badly_named(states, place) {
+            return Some(place as u32);
+        }
+    }
+    None
+}
+
+/// The place of the first state without a condition.
+#[tactic(auto, using(crate::proofs::FirstPlaces::places))]
+fn first_unconditional(states: &[OverdueState]) -> Option<u32>
+    requires few { length states.now ≤ most_states }
+    ensures { result ≡ first_offender states.now Conditions }
+{
+    for place in 0..states.len() {
+        if is_unconditional_at(states, place) {
+            return Some(place as u32);
+        }
+    }
+    None
+}
+
+/// Whether the name of the state at a place stands earlier or is CLEAR.
+#[tactic(auto, unfolding(crate::specs::ConfigRules::is_broken_at))]
+fn is_badly_named(states: &[OverdueState], place: usize) -> bool
+    requires { place < length states.now }
+    ensures { result ≡ is_broken_at states.now Names place }
+{
+    let state = &states[place];
+    has_name_among(state, &states[..place]) || state.name.as_str() == "CLEAR"
+}
+
+/// Whether one of some states has the name of this one.
+fn has_name_among(state: &OverdueState, states: &[OverdueState]) -> bool
+    ensures { result ≡ list_any (has_name_of state.now) states.now }
+{
+    for other in states {
+        if state.name == other.name {
+            return true;
+        }
+    }
+    false
+}
+
+/// Whether the state at a place has no condition.
+#[tactic(auto, unfolding(crate::specs::ConfigRules::is_broken_at))]
+fn is_unconditional_at(states: &[OverdueState], place: usize) -> bool
+    requires { place < length states.now }
+    ensures { result ≡ is_broken_at states.now Conditions place }
+{
+    is_unconditional(&states[place])
+}
+
+/// Whether a state has none of the three conditions.
+fn is_unconditional(state: &OverdueState) -> bool
+    ensures { result ≡ is_unconditional state.now }
+{
+    state.days.is_none() && state.count.is_none() && state.total.is_none()
+}
+
+#[cfg(test)]
+mod tests {
+    use super::*;
+    use crate::Threshold;
+    use kb_days::Name;
+    use std::alloc::Global;
+    use std::test::Fail;
+
+    /// A state that blocks nothing, with this name and with the conditions that aren't 0.
+    fn state(name: &[u8], days: u64, count: u64, total: u64) -> Result<OverdueState, Fail> {
+        Ok(OverdueState {
+            name: Name::new(name).ok_or("a name")?,
+            days: Threshold::new(days),
+            count: Threshold::new(count),
+            total: Threshold::new(total),
+            block_change: false,
+            block_entitlement: false,
+            block_billing: false,
+        })
+    }
+
+    /// The state of a letter: a capital has a condition, a small letter has none, and a star is named CLEAR.
+    fn letter_state(letter: u8) -> Result<OverdueState, Fail> {
+        match letter {
+            b'*' => state(b"CLEAR", 7, 0, 0),
+            b'a'..=b'z' => state(&[letter], 0, 0, 0),
+            _ => state(&[letter], 7, 0, 0),
+        }
+    }
+
+    /// The rule and the place that are told of states, one for each letter.
+    fn told(alloc: Global, letters: &str) -> Result<Option<(u32, u32)>, Fail> {
+        let mut states = Vec::new(alloc);
+        for letter in letters.bytes() {
+            let next = letter_state(letter)?;
+            // The check has to see a threshold in a state that is pushed.
+            let _days = next.days;
+            states.push(next)?;
+        }
+        match Config::check(states) {
+            Ok(_) => Ok(None),
+            Err(fault) => Ok(Some((fault.rule.number(), fault.index))),
+        }
+    }
+
+    #[test]
+    fn the_first_fault(rt: HostRuntime) -> Result<(), Fail> {
+        // the states, the rule and the place that are told
+        let cases = [
+            ("", None),
+            ("A", None),
+            ("ABCDEFGHIJKLMNOP", None),
+            ("ABCDEFGHIJKLMNOPQ", Some((1, 16))),
+            ("ABCDEFGHIJKLMNOPQR", Some((1, 16))),
+            ("ABA", Some((2, 2))),
+            ("ABBA", Some((2, 2))),
+            ("AB*", Some((2, 2))),
+            ("*", Some((2, 0))),
+            ("Ab", Some((3, 1))),
+            ("aBc", Some((3, 0))),
+            ("aBB", Some((2, 2))),
+            ("*aBCDEFGHIJKLMNOP", Some((1, 16))),
+        ];
+        for (letters, fault) in cases {
+            assert_eq!(rt; told(rt.alloc(), letters)?, fault, "{letters}");
+        }
+        Ok(())
+    }
+
+    #[test]
+    fn states_are_handed_back(rt: HostRuntime) -> Result<(), Fail> {
+        let mut blocked = state(b"BLOCKED", 14, 0, 0)?;
+        blocked.block_change = true;
+        blocked.block_entitlement = true;
+        let cases = [
+            [blocked, state(b"WARNING", 7, 0, 0)?],
+            [state(b"MANY", 0, 3, 0)?, state(b"MUCH", 0, 0, 1000)?],
+        ];
+        for states in &cases {
+            match Config::check(states.to_vec(rt.alloc())?) {
+                Ok(config) => assert!(rt; config.states() == states.as_slice()),
+                Err(_) => assert!(rt; false),
+            }
+        }
+        Ok(())
+    }
+}
