@@ -6,7 +6,7 @@ use Rattle.kb_overdue.specs.declared.config.ConfigRule.TheVariants.{Count, Names
 use Rattle.kb_overdue.specs.ConfigRules.{is_broken_at, first_offender, fault_of}
 use Rattle.kb_overdue.proofs.FirstPlaces.{first_place-none, first_place-some}
 
--- of up to sixteen states none is too many
+-- at no place are up to sixteen states too many
 is_broken_at-few : (states : List OverdueState) (place : ℕ) → length states ≤ 16 → is_broken_at states Count place ≡ false
 unfolding is_broken_at
 is_broken_at-few states place few = grind (arith, nat_tests)
@@ -15,12 +15,12 @@ is_broken_at-few states place few = grind (arith, nat_tests)
 pub first_offender-few : (states : List OverdueState) → length states ≤ 16 → first_offender states Count ≡ None
 first_offender-few states few = first_place-none (is_broken_at states Count) (length states) (λ (k : ℕ) (to : k < length states). is_broken_at-few states k few)
 
--- of more than sixteen states the one at place 16 is told
+-- of more than sixteen states the one at place 16 is told as too many
 is_broken_at-many : (states : List OverdueState) → 16 < length states → is_broken_at states Count 16 ≡ true
 unfolding is_broken_at
 is_broken_at-many states many = grind (arith, nat_tests)
 
--- no other is told
+-- none before place 16 is told as too many
 is_broken_at-before : (states : List OverdueState) (place : ℕ) → place < 16 → is_broken_at states Count place ≡ false
 unfolding is_broken_at
 is_broken_at-before states place before = grind (arith, nat_tests)
@@ -40,12 +40,12 @@ pub fault_of-names : (states : List OverdueState) (place : ℕ) → length state
 unfolding fault_of
 fault_of-names states place few named = rw (first_offender-few states few, named) refl
 
--- else the first state without a condition
+-- else the first state without a condition is told
 pub fault_of-conditions : (states : List OverdueState) (place : ℕ) → length states ≤ 16 → first_offender states Names ≡ None → first_offender states Conditions ≡ Some place → fault_of states ≡ Some (record { rule = Conditions; index = place })
 unfolding fault_of
 fault_of-conditions states place few named without = rw (first_offender-few states few, named, without) refl
 
--- else none
+-- else no fault is told
 pub fault_of-none : (states : List OverdueState) → length states ≤ 16 → first_offender states Names ≡ None → first_offender states Conditions ≡ None → fault_of states ≡ None
 unfolding fault_of
 fault_of-none states few named without = rw (first_offender-few states few, named, without) refl

@@ -9,7 +9,15 @@ use Rattle.kb_overdue.specs.declared.config.ConfigFault.{ConfigFault}
 -- for the examples: a state of some name that is taken after so many days, if any
 abbrev after_days : List ℕ → Option ℕ → OverdueState
 after_days name days =
-    record { name = name; days = days; count = None; total = None; block_change = false; block_entitlement = false; block_billing = false }
+    record {
+      name = name;
+      days = days;
+      count = None;
+      total = None;
+      block_change = false;
+      block_entitlement = false;
+      block_billing = false;
+    }
 
 -- the most states that there may be
 abbrev pub most_states : ℕ
@@ -72,16 +80,21 @@ unfolding is_broken_at
 the_seventeenth = refl
 
 the_name_again :
-    first_offender (after_days (codes "A") (Some 9) ∷ after_days (codes "B") (Some 7) ∷ after_days (codes "A") (Some 5) ∷ []) Names ≡ Some 2
+    first_offender (after_days (codes "A") (Some 9) ∷ after_days (codes "B") (Some 7) ∷ after_days (codes "A") None ∷ [])
+    Names
+    ≡ Some 2
 unfolding is_broken_at
 the_name_again = refl
 
-the_name_of_who_pays : first_offender (after_days (codes "LATE") (Some 7) ∷ after_days (codes "CLEAR") (Some 5) ∷ []) Names ≡ Some 1
+the_name_of_who_pays :
+    first_offender (after_days (codes "LATE") (Some 7) ∷ after_days (codes "CLEAR") (Some 5) ∷ []) Names ≡ Some 1
 unfolding is_broken_at
 the_name_of_who_pays = refl
 
 the_first_without :
-    first_offender (after_days (codes "A") (Some 9) ∷ after_days (codes "B") None ∷ after_days (codes "C") None ∷ []) Conditions ≡ Some 1
+    first_offender (after_days (codes "A") (Some 9) ∷ after_days (codes "B") None ∷ after_days (codes "C") None ∷ [])
+    Conditions
+    ≡ Some 1
 unfolding is_broken_at
 the_first_without = refl
 
@@ -98,15 +111,20 @@ fault_among states (rule ∷ later) = of_offender (first_offender states rule) (
 unfoldable pub fault_of : List OverdueState → Option ConfigFault
 fault_of states = fault_among states (Count ∷ Names ∷ Conditions ∷ [])
 
-seventeen_of_one_name : fault_of (replicate 17 (after_days (codes "LATE") None)) ≡ Some (record { rule = Count; index = 16 })
+seventeen_of_one_name :
+    fault_of (replicate 17 (after_days (codes "LATE") None)) ≡ Some (record { rule = Count; index = 16 })
 unfolding fault_of is_broken_at
 seventeen_of_one_name = refl
 
-names_before_conditions : fault_of (after_days (codes "A") None ∷ after_days (codes "A") None ∷ []) ≡ Some (record { rule = Names; index = 1 })
+names_before_conditions :
+    fault_of (after_days (codes "A") None ∷ after_days (codes "A") None ∷ [])
+    ≡ Some (record { rule = Names; index = 1 })
 unfolding fault_of is_broken_at
 names_before_conditions = refl
 
-a_state_without_a_condition : fault_of (after_days (codes "A") (Some 7) ∷ after_days (codes "B") None ∷ []) ≡ Some (record { rule = Conditions; index = 1 })
+a_state_without_a_condition :
+    fault_of (after_days (codes "A") (Some 7) ∷ after_days (codes "B") None ∷ [])
+    ≡ Some (record { rule = Conditions; index = 1 })
 unfolding fault_of is_broken_at
 a_state_without_a_condition = refl
 

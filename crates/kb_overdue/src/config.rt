@@ -23,7 +23,8 @@ pub enum ConfigRule {
     Conditions,
 }
 
-/// The first rule that some states break, and the place, from 0, of the first offender (16 for too many).
+/// The first rule that some states break, and the place, from 0, of the first offender: 16 for too
+/// many.
 #[derive(Clone, Copy, Debug, PartialEq, Eq)]
 pub struct ConfigFault {
     pub rule: ConfigRule,
@@ -62,8 +63,8 @@ impl ConfigRule {
 }
 
 impl Config {
-    /// These states, if they keep the three rules; else the first rule that they break, and its first
-    /// offender. It takes no memory.
+    /// These states, if they keep the three rules; else the first rule that they break, and its
+    /// first offender. It takes no memory.
     pub fn check(states: Vec<OverdueState>) -> Result<Config, ConfigFault>
         ensures valid { IsOk result ↔ AreStates states.items }
         ensures same { IfOk result (λ config. config ≡ states.items) }
@@ -202,7 +203,8 @@ mod tests {
         })
     }
 
-    /// The state of a letter: a capital has a condition, a small letter has none, and a star is named CLEAR.
+    /// The state of a letter: a capital has a condition, a small letter has none, and a star is
+    /// named CLEAR.
     fn letter_state(letter: u8) -> Result<OverdueState, Fail> {
         match letter {
             b'*' => state(b"CLEAR", 7, 0, 0),
