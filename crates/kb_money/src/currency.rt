@@ -1,6 +1,7 @@
 //! Currencies.
 ghost use Rattle.std.specs.Prelude.{◌≡◌, ◌↔◌, List, ℕ, Some, IsSome, IfSome};
-ghost use Rattle.kb_money.specs.Currency.{IsCurrency};
+ghost use Rattle.std.specs.List.{list_all};
+ghost use Rattle.kb_money.specs.Currency.{IsCurrency, is_capital};
 
 use std::marker::Model;
 use std::{fmt, str};
@@ -28,7 +29,7 @@ impl Currency {
         ensures value { IfSome result (λ currency. currency ≡ bytes.now) }
     {
         let letters = <[u8; 3]>::try_from(bytes).ok()?;
-        if letters.iter().all(|letter| letter.is_ascii_uppercase()) {
+        if are_capitals(&letters) {
             Some(Currency { letters })
         } else {
             None
@@ -42,6 +43,13 @@ impl Currency {
     {
         &self.letters
     }
+}
+
+/// Whether each of these is a capital.
+fn are_capitals(letters: &[u8]) -> bool
+    ensures { result ≡ list_all is_capital letters.now }
+{
+    letters.iter().all(|letter| letter.is_ascii_uppercase())
 }
 
 impl fmt::Display for Currency {
