@@ -82,6 +82,7 @@ impl Sink for BytesSink {
         ensures count { WritesAtMost result bytes.now }
         ensures some { 0 < length bytes.now → IfOk result (λ count. 0 < count) }
         ensures cause { HasCause self.old.faults self.new.faults result }
+        ensures calm { OnOk result (self.new.faults ≡ self.old.faults) }
         ensures rising { self.old.faults ≤ self.new.faults }
         ensures fails { IsTrue (fails_next self.old.failing self.old.calls) → IsErr result }
         ensures all { IfOk result (λ count. count ≡ length bytes.now) }

@@ -1,6 +1,6 @@
 //! A source in memory.
 ghost use Rattle.std.specs.Prelude.{◌≡◌, ◌<◌, ◌≤◌, ◌↔◌, [], ◌++◌, length, min, take, drop};
-ghost use Rattle.std.specs.Prelude.{Some, IsErr, IsTrue, IfOk, OnErr};
+ghost use Rattle.std.specs.Prelude.{Some, IsErr, IsTrue, IfOk, OnErr, OnOk};
 ghost use Rattle.std.specs.Io.{ReadsAtMost};
 ghost use Rattle.std.specs.Io.KnownBytes.{ReadConsumes};
 ghost use Rattle.kb_base.specs.Faults.{HasCause};
@@ -79,6 +79,7 @@ impl Source for BytesSource {
         ensures bytes { ReadConsumes (Some self.old.bytes) (Some self.new.bytes) result buf.new }
         ensures count { ReadsAtMost result buf.new }
         ensures cause { HasCause self.old.faults self.new.faults result }
+        ensures calm { OnOk result (self.new.faults ≡ self.old.faults) }
         ensures rising { self.old.faults ≤ self.new.faults }
         ensures fails { IsErr result ↔ IsTrue (fails_next self.old.failing self.old.calls) }
         ensures given { IfOk result (λ count.

@@ -1,9 +1,9 @@
 //! The outside, as traits: where bytes come from and where they go.
 //!
-//! The rule kept here: a call fails only where its object's count of faults rose, and a failed call
-//! moves no byte. The counts are ghost, so a body that is generic over the traits can't raise one by
-//! itself. Layers above are proved against the traits alone, and write by `write_all`; the objects in
-//! memory serve their tests.
+//! The rule kept here: a call fails only where its object's count of faults rose, one that succeeds
+//! leaves the count as it was, and a failed call moves no byte. The counts are ghost, so a body that is
+//! generic over the traits can't raise one by itself. Layers above are proved against the traits alone,
+//! and write by `write_all`; the objects in memory serve their tests.
 #![tactic(auto)]
 
 mod bytes_sink;

@@ -1,5 +1,5 @@
 //! Where bytes come from.
-ghost use Rattle.std.specs.Prelude.{◌≤◌, List, ℕ, Option};
+ghost use Rattle.std.specs.Prelude.{◌≡◌, ◌≤◌, List, ℕ, Option, OnOk};
 ghost use Rattle.std.specs.Io.{ReadsAtMost};
 ghost use Rattle.std.specs.Io.KnownBytes.{ReadConsumes};
 ghost use Rattle.kb_base.specs.Faults.{HasCause};
@@ -20,5 +20,6 @@ pub trait Source {
         ensures bytes { ReadConsumes (left self.old) (left self.new) result buf.new }
         ensures count { ReadsAtMost result buf.new }
         ensures cause { HasCause (faults self.old) (faults self.new) result }
+        ensures calm { OnOk result (faults self.new ≡ faults self.old) }
         ensures rising { faults self.old ≤ faults self.new };
 }

@@ -13,6 +13,7 @@ pub fn write_all<S: Sink>(sink: &mut S, bytes: &[u8]) -> Result<(), Failed>
     ensures err { OnErr result (Writes (S.written sink.old) (S.written sink.new)
         (λ text. (rest : List ℕ) × (text ++ rest ≡ bytes.now))) }
     ensures cause { HasCause (S.faults sink.old) (S.faults sink.new) result }
+    ensures calm { OnOk result (S.faults sink.new ≡ S.faults sink.old) }
     ensures rising { S.faults sink.old ≤ S.faults sink.new }
 {
     let mut taken = 0;

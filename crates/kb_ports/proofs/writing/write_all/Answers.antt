@@ -1,4 +1,4 @@
-use Rattle.std.proofs.Common.{take, drop, take-append-drop, arith, length-drop}
+use Rattle.std.proofs.Common.{◌∙◌, take, drop, take-append-drop, arith, length-drop}
 use Rattle.std.proofs.KnownBytes.{Appends-trans, Appends-kept}
 use Rattle.std.proofs.Math.Seq.{take-add}
 use Rattle.std.proofs.lemmas.List.{take_rest}
@@ -28,5 +28,5 @@ loop-taken-preserved g c =
       in_range = omega (arith, count, length-drop taken bytes);
       written = rw (take-add taken c.in_ok-taken.field-0 bytes)
           (Appends-trans _ _ _ _ _ c.loop-taken.invariant.written more);
-      rising = omega (arith, c.in_ok-taken.ensures.rising);
+      calm = c.in_ok-taken.ensures.calm ∙ c.loop-taken.invariant.calm;
     }
