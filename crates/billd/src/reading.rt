@@ -49,6 +49,8 @@ pub fn run_lines<M: LineMachine, I: Source, O: Sink>(
         (I.left input.old) (I.left input.new) (O.written output.old) (O.written output.new) machine.new) }
     ensures input_fault { result ≡ Err Input → Rose (I.faults input.old) (I.faults input.new) }
     ensures output_fault { result ≡ Err Output → Rose (O.faults output.old) (O.faults output.new) }
+    ensures input_calm { (result ≡ Err Input → ⊥) → I.faults input.new ≡ I.faults input.old }
+    ensures output_calm { (result ≡ Err Output → ⊥) → O.faults output.new ≡ O.faults output.old }
     ensures input_rising { I.faults input.old ≤ I.faults input.new }
     ensures output_rising { O.faults output.old ≤ O.faults output.new }
 {
@@ -163,6 +165,7 @@ fn feed<M: LineMachine, O: Sink>(
         (λ text. BreaksAmong M.step machine.old pending.old.items bytes.now stop machine.new pending.new.items text)) }
     ensures input { result ≡ Err Input → ⊥ }
     ensures output { result ≡ Err Output → Rose (O.faults output.old) (O.faults output.new) }
+    ensures calm { (result ≡ Err Output → ⊥) → O.faults output.new ≡ O.faults output.old }
     ensures rising { O.faults output.old ≤ O.faults output.new }
 {
     let mut said = Vec::new(alloc);
@@ -186,6 +189,7 @@ fn finish<M: LineMachine, O: Sink>(
         (λ text. StopsAtLast M.step machine.old pending.old.items stop machine.new text)) }
     ensures input { result ≡ Err Input → ⊥ }
     ensures output { result ≡ Err Output → Rose (O.faults output.old) (O.faults output.new) }
+    ensures calm { (result ≡ Err Output → ⊥) → O.faults output.new ≡ O.faults output.old }
     ensures rising { O.faults output.old ≤ O.faults output.new }
 {
     let mut said = Vec::new(alloc);

@@ -1,5 +1,5 @@
 //! What stops a run, with its exit status and its last output line.
-ghost use Rattle.std.specs.Prelude.{◌≡◌, Err, IsOk};
+ghost use Rattle.std.specs.Prelude.{◌≡◌, Err, IsOk, IfErr};
 ghost use Rattle.billd.specs.declared.stop.Stop.{Stop};
 ghost use Rattle.billd.specs.declared.stop.Stop.TheVariants.{Memory};
 ghost use Rattle.billd.specs.Stop.{stop_status, last_line, IsStatus};
@@ -74,6 +74,7 @@ impl Stop {
 pub fn status_of(run: Result<(), Stop>) -> u8
     ensures done { result ≡ 0 → IsOk run }
     ensures stopped { (stop : Stop) → result ≡ stop_status stop → run ≡ Err stop }
+    ensures value { IfErr run (λ stop. result ≡ stop_status stop) }
     ensures status { IsStatus result }
 {
     match run {

@@ -32,9 +32,12 @@ pub fn billd<R, I: Source, O: Sink>(
         (I.left input.old) (O.written output.old) (O.written output.new) last }
     ensures status { IsStatus result }
 
-    // A fault of the source or the sink comes only where its count rose.
+    // A fault of the source or the sink comes only where its count rose; without one it stands still.
+    // With 4 the source may have failed too, before the last output line did.
     ensures input { result ≡ 3 → Rose (I.faults input.old) (I.faults input.new) }
     ensures output { result ≡ 4 → Rose (O.faults output.old) (O.faults output.new) }
+    ensures input_calm { (result ≡ 3 → ⊥) → (result ≡ 4 → ⊥) → I.faults input.new ≡ I.faults input.old }
+    ensures output_calm { (result ≡ 4 → ⊥) → O.faults output.new ≡ O.faults output.old }
 {
     let run = begin(alloc, words, input, output);
     status_of(close(output, run))
@@ -53,6 +56,8 @@ fn begin<I: Source, O: Sink>(
         (I.left input.old) (I.left input.new) (O.written output.old) (O.written output.new)) }
     ensures input { result ≡ Err Input → Rose (I.faults input.old) (I.faults input.new) }
     ensures output { result ≡ Err Output → Rose (O.faults output.old) (O.faults output.new) }
+    ensures input_calm { (result ≡ Err Input → ⊥) → I.faults input.new ≡ I.faults input.old }
+    ensures output_calm { (result ≡ Err Output → ⊥) → O.faults output.new ≡ O.faults output.old }
     ensures output_rising { O.faults output.old ≤ O.faults output.new }
 {
     if !are_words(words) {
@@ -88,6 +93,7 @@ pub fn close<O: Sink>(output: &mut O, run: Result<(), Stop>) -> Result<(), Stop>
     ensures err { IfErr result (λ stop. HasClosed stop run (O.written output.old) (O.written output.new)) }
     ensures input { result ≡ Err Input → run ≡ Err Input }
     ensures output { result ≡ Err Output → (run ≡ Err Output) ⊎ Rose (O.faults output.old) (O.faults output.new) }
+    ensures calm { (result ≡ Err Output → ⊥) → O.faults output.new ≡ O.faults output.old }
     ensures rising { O.faults output.old ≤ O.faults output.new }
 {
     let Err(stop) = run else {

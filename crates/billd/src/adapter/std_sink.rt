@@ -48,8 +48,8 @@ impl Sink for StdSink {
         ensures count { WritesAtMost result bytes.now }
         ensures some { 0 < length bytes.now → IfOk result (λ count. 0 < count) }
         ensures cause { HasCause self.old self.new result }
+        ensures calm { OnOk result (self.new ≡ self.old) }
         ensures rising { self.old ≤ self.new }
-        ensures ok { OnOk result (self.new ≡ self.old) }
         ensures err { OnErr result (self.new ≡ next_count self.old) }
     {
         let answer = write_retrying(&mut self.stdout, bytes);

@@ -44,8 +44,8 @@ impl Source for StdSource {
         ensures bytes { ReadConsumes None None result buf.new }
         ensures count { ReadsAtMost result buf.new }
         ensures cause { HasCause self.old self.new result }
+        ensures calm { OnOk result (self.new ≡ self.old) }
         ensures rising { self.old ≤ self.new }
-        ensures ok { OnOk result (self.new ≡ self.old) }
         ensures err { OnErr result (self.new ≡ next_count self.old) }
     {
         let answer = read_retrying(&mut self.stdin, buf);

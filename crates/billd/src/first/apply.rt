@@ -28,9 +28,11 @@ pub fn apply_first<I: Source, O: Sink>(
         (O.written output.old) (O.written output.new) book.new }
     ensures status { IsStatus result }
 
-    // A fault of the source or the sink comes only where its count rose.
+    // A fault of the source or the sink comes only where its count rose; without one it stands still.
     ensures input { result ≡ 3 → Rose (I.faults input.old) (I.faults input.new) }
     ensures output { result ≡ 4 → Rose (O.faults output.old) (O.faults output.new) }
+    ensures input_calm { (result ≡ 3 → ⊥) → I.faults input.new ≡ I.faults input.old }
+    ensures output_calm { (result ≡ 4 → ⊥) → O.faults output.new ≡ O.faults output.old }
 {
     status_of(run_lines(alloc, book, input, output))
 }

@@ -1,12 +1,12 @@
-use Rattle.std.proofs.Common.{◌<◌, length, take, arith, refl, sym, ap}
+use Rattle.std.proofs.Common.{◌∙◌, ◌<◌, length, take, arith, refl, sym, ap}
 use Rattle.billd.proofs.Transferred.{under_way-start, under_way-more, under_way-input, under_way-end, under_way-last, under_way-stopped, under_way-too_long}
 use Rattle.billd.proofs.reading.run_lines.Goals as goal
 
 pub reads-init : goal.reads-init
 reads-init g c = record {
   answered = under_way-start g.M.LineMachine.step _ _ _ _ _ c.new-pending.ensures.items refl;
-  input_rising = omega arith;
-  output_rising = omega arith;
+  input_calm = refl;
+  output_calm = refl;
 }
 
 pub returns-in-Err-clause-err : goal.returns-in-Err-clause-err
@@ -31,8 +31,8 @@ returns-in-Err-feed-clause-err g c =
 pub reads-preserved : goal.reads-preserved
 reads-preserved g c = record {
   answered = under_way-more g.M.LineMachine.step _ _ _ _ _ _ _ _ _ _ _ _ _ _ c.reads.invariant.answered c.in-Ok.ensures.bytes.0 (sym c.in-Ok.ensures.count.1) c.in_default-feed.ensures.ok;
-  input_rising = omega (arith, c.in-Ok.ensures.rising);
-  output_rising = omega (arith, c.in_default-feed.ensures.rising);
+  input_calm = c.in-Ok.ensures.calm ∙ c.reads.invariant.input_calm;
+  output_calm = c.in_default-feed.ensures.calm (λ e. absurd (cc)) ∙ c.reads.invariant.output_calm;
 }
 
 pub returns-clause-err : goal.returns-clause-err

@@ -1,4 +1,4 @@
-use Rattle.std.proofs.Common.{◌≡◌, ◌≤◌, ◌-◌, length}
+use Rattle.std.proofs.Common.{◌≡◌, ◌-◌, length}
 use Rattle.kb_base.specs.Stream.{IsAt}
 use Rattle.billd.specs.Reading.{Transfers, input_bound}
 use Rattle.billd.proofs.reading.run_lines.Given as goal
@@ -7,8 +7,8 @@ abbrev pub invariant-reads : goal.invariant-reads
 invariant-reads g l = record {
   answered : Transfers (g.I.Source.left l.fn.input) (g.I.Source.left l.input) (g.O.Sink.written l.fn.output) (g.O.Sink.written l.output)
       (λ bytes text. (length bytes ≡ l.seen) × IsAt g.M.LineMachine.step l.fn.machine bytes l.machine l.pending.items text);
-  input_rising : g.I.Source.faults l.fn.input ≤ g.I.Source.faults l.input;
-  output_rising : g.O.Sink.faults l.fn.output ≤ g.O.Sink.faults l.output;
+  input_calm : g.I.Source.faults l.input ≡ g.I.Source.faults l.fn.input;
+  output_calm : g.O.Sink.faults l.output ≡ g.O.Sink.faults l.fn.output;
 }
 
 abbrev pub decreases-reads : goal.decreases-reads
