@@ -1,5 +1,6 @@
 pub mod Covered
 pub mod Determined
+pub mod FirstPlaces
 pub mod Pieces
 pub mod Sessions
 pub mod Summed

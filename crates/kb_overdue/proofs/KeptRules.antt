@@ -11,7 +11,7 @@ use Rattle.kb_base.specs.Offenders.{passes_at}
 use Rattle.kb_overdue.specs.declared.state.OverdueState.{OverdueState}
 use Rattle.kb_overdue.specs.declared.config.ConfigRule.TheVariants.{Names, Conditions}
 use Rattle.kb_overdue.specs.ConfigRules.{clear_name, has_name_of, is_unconditional, is_broken_at, first_offender, AreStates}
-use Rattle.kb_overdue.proofs.FirstPlaces.{first_place-none, first_place-fails}
+use Rattle.kb_base.proofs.FirstPlaces.{first_place-none, first_place-fails}
 use Rattle.kb_overdue.proofs.ToldFaults.{fault_of-many, fault_of-names, fault_of-conditions, fault_of-none}
 
 -- there are at most sixteen states

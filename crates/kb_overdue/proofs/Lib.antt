@@ -1,3 +1,2 @@
-pub mod FirstPlaces
 pub mod KeptRules
 pub mod ToldFaults

@@ -4,7 +4,7 @@ use Rattle.std.proofs.lemmas.Bool.Decides.{nat_tests}
 use Rattle.kb_overdue.specs.declared.state.OverdueState.{OverdueState}
 use Rattle.kb_overdue.specs.declared.config.ConfigRule.TheVariants.{Count, Names, Conditions}
 use Rattle.kb_overdue.specs.ConfigRules.{is_broken_at, first_offender, fault_of}
-use Rattle.kb_overdue.proofs.FirstPlaces.{first_place-none, first_place-some}
+use Rattle.kb_base.proofs.FirstPlaces.{first_place-none, first_place-some}
 
 -- at no place are up to sixteen states too many
 is_broken_at-few : (states : List OverdueState) (place : ℕ) → length states ≤ 16 → is_broken_at states Count place ≡ false

@@ -117,7 +117,7 @@ fn fault_of(states: &[OverdueState]) -> Option<ConfigFault>
 }
 
 /// The place of the first state whose name stands earlier or is CLEAR.
-#[tactic(auto, using(crate::proofs::FirstPlaces::places))]
+#[tactic(auto, using(kb_base::proofs::FirstPlaces::places))]
 fn first_badly_named(states: &[OverdueState]) -> Option<u32>
     requires few { length states.now ≤ most_states }
     ensures { result ≡ first_offender states.now Names }
@@ -131,7 +131,7 @@ fn first_badly_named(states: &[OverdueState]) -> Option<u32>
 }
 
 /// The place of the first state without a condition.
-#[tactic(auto, using(crate::proofs::FirstPlaces::places))]
+#[tactic(auto, using(kb_base::proofs::FirstPlaces::places))]
 fn first_unconditional(states: &[OverdueState]) -> Option<u32>
     requires few { length states.now ≤ most_states }
     ensures { result ≡ first_offender states.now Conditions }
