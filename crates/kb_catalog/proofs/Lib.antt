@@ -1,0 +1,7 @@
+pub mod Added
+pub mod BothPlaces
+pub mod Decided
+pub mod Holding
+mod LastMembers
+pub mod Latest
+pub mod RulesHold

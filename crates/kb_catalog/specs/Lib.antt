@@ -1,0 +1,12 @@
+pub mod Words
+pub mod Products
+pub mod Plans
+pub mod Lists
+pub mod Cases
+pub mod VersionRules
+pub mod RuleNumbers
+pub mod SmallVersion
+pub mod SmallLookUps
+pub mod LookUp
+pub mod Catalogs
+pub mod Alignments

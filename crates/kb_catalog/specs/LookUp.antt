@@ -1,0 +1,108 @@
+-- What billing asks of a catalog.
+use Rattle.std.specs.Prelude.{ℕ, ◌+◌, Bool, true, false, ◌&&◌, bytes_eq, nat_le, List, [], ◌∷◌, find, Option, Some, None, option_map}
+use Rattle.kb_days.specs.declared.period.Period.{Period}
+use Rattle.kb_catalog.specs.declared.version.Version.{Version}
+use Rattle.kb_catalog.specs.declared.version.Plan.{Plan}
+use Rattle.kb_catalog.specs.declared.version.PriceList.{PriceList}
+use Rattle.kb_catalog.specs.declared.version.PlanCondition.{PlanCondition}
+use Rattle.kb_catalog.specs.declared.version.ChangePolicyCase.{ChangePolicyCase}
+use Rattle.kb_catalog.specs.declared.version.ChangeAlignmentCase.{ChangeAlignmentCase}
+use Rattle.kb_catalog.specs.declared.version.CancelCase.{CancelCase}
+use Rattle.kb_catalog.specs.declared.version.CreateCase.{CreateCase}
+use Rattle.kb_catalog.specs.declared.version.BillingCase.{BillingCase}
+use Rattle.kb_catalog.specs.declared.ask.PlanAsk.{PlanAsk}
+use Rattle.kb_catalog.specs.declared.ask.ChangeAsk.{ChangeAsk}
+use Rattle.kb_catalog.specs.Words.{same_category, same_phase, same_period}
+use Rattle.kb_catalog.specs.Products.{has_name}
+use Rattle.kb_catalog.specs.Plans.{plan_period}
+use Rattle.kb_catalog.specs.Cases.{Asks, asks_of_change_policy, asks_of_change_alignment, asks_of_cancel, asks_of_create, asks_of_billing}
+
+-- the place of the last version that is effective on or before a day
+abbrev pub version_at_from : ℕ → List Version → ℕ → Option ℕ
+version_at_from place [] day = None
+version_at_from place (version ∷ later) day = latest (version_at_from (place + 1) later day) (nat_le version.effective day) place
+  where
+    latest : Option ℕ → Bool → ℕ → Option ℕ
+    latest (Some after) effective here = Some after
+    latest None true here = Some here
+    latest None false here = None
+
+abbrev pub version_at : List Version → ℕ → Option ℕ
+version_at versions day = version_at_from 0 versions day
+
+-- the place of the first member that passes a test
+abbrev pub place_from : {A : Type 0} → ℕ → (A → Bool) → List A → Option ℕ
+place_from place test [] = None
+place_from place test (member ∷ later) = of_test (test member) (place_from (place + 1) test later)
+  where
+    of_test : Bool → Option ℕ → Option ℕ
+    of_test true after = Some place
+    of_test false after = after
+
+-- a plan has this product and billing period, and is among these names
+abbrev pub is_asked : List ℕ → Period → List (List ℕ) → Plan → Bool
+is_asked product period names plan =
+    bytes_eq product plan.product && same_period period (plan_period plan) && has_name names plan.name
+
+-- the names that the list of a name sells
+abbrev pub names_sold : List PriceList → List ℕ → List (List ℕ)
+names_sold [] name = []
+names_sold (list ∷ later) name = of_test (bytes_eq name list.name) list.plans (names_sold later name)
+  where
+    of_test : Bool → List (List ℕ) → List (List ℕ) → List (List ℕ)
+    of_test true here after = here
+    of_test false here after = after
+
+-- both places, where both are there
+abbrev pub both_places : Option ℕ → Option ℕ → Option (ℕ × ℕ)
+both_places None plan = None
+both_places (Some list) None = None
+both_places (Some list) (Some plan) = Some (list, plan)
+
+-- the places of a list and of a plan that it sells for a product and a billing period, where there is one; no other
+-- list is looked in
+abbrev pub plan_at : Version → List ℕ → Period → List ℕ → Option (ℕ × ℕ)
+plan_at version product period list =
+    both_places (place_from 0 (λ (other : PriceList). bytes_eq list other.name) version.lists)
+    (place_from 0 (is_asked product period (names_sold version.lists list)) version.plans)
+
+-- a condition on a value holds: it isn't stated, or the value is there and the same
+abbrev pub holds : {A : Type 0} → (A → A → Bool) → Option A → Option A → Bool
+holds same None value = true
+holds same (Some asked) None = false
+holds same (Some asked) (Some value) = same asked value
+
+-- the conditions on a plan hold
+abbrev pub holds_of : PlanCondition → PlanAsk → Bool
+holds_of condition ask =
+    holds bytes_eq condition.product (Some ask.product) && holds same_category condition.category ask.category
+    && holds same_period condition.period (Some ask.period) && holds bytes_eq condition.list (Some ask.list)
+
+-- the conditions on the plan asked for hold
+abbrev pub holds_to : Option PlanCondition → PlanAsk → Bool
+holds_to None ask = true
+holds_to (Some condition) ask = holds_of condition ask
+
+-- all conditions of a case hold, of the plan that governs or is looked at and of the plan asked for
+abbrev pub fits : PlanAsk → PlanAsk → Asks → Bool
+fits from to asks = holds_of asks.from from && holds same_phase asks.phase from.phase && holds_to asks.to to
+
+-- a case of each kind fits what it is asked about; where no change is decided, no condition looks at a plan asked for
+abbrev pub fits_change_policy : ChangeAsk → ChangePolicyCase → Bool
+fits_change_policy change = λ case. fits change.from change.to (asks_of_change_policy case)
+
+abbrev pub fits_change_alignment : ChangeAsk → ChangeAlignmentCase → Bool
+fits_change_alignment change = λ case. fits change.from change.to (asks_of_change_alignment case)
+
+abbrev pub fits_cancel : PlanAsk → CancelCase → Bool
+fits_cancel now = λ case. fits now now (asks_of_cancel case)
+
+abbrev pub fits_create : PlanAsk → CreateCase → Bool
+fits_create now = λ case. fits now now (asks_of_create case)
+
+abbrev pub fits_billing : PlanAsk → BillingCase → Bool
+fits_billing now = λ case. fits now now (asks_of_billing case)
+
+-- what the first case gives whose conditions all hold
+abbrev pub first_match : {A B : Type 0} → (A → Bool) → (A → B) → List A → Option B
+first_match fits gives cases = option_map gives (find fits cases)

@@ -1,0 +1,51 @@
+-- What the small version answers: plans looked up, and cases of a cancel policy.
+use Rattle.std.specs.Prelude.{◌≡◌, [], ◌∷◌, codes, Some, None, List, refl}
+use Rattle.kb_days.specs.declared.period.Period.TheVariants.{Monthly, Annual}
+use Rattle.kb_catalog.specs.declared.version.CancelCase.{CancelCase}
+use Rattle.kb_catalog.specs.declared.ask.PlanAsk.{PlanAsk}
+use Rattle.kb_catalog.specs.declared.words.Category.TheVariants.{Base}
+use Rattle.kb_catalog.specs.declared.words.PhaseType.TheVariants.{Trial, Evergreen}
+use Rattle.kb_catalog.specs.declared.words.Policy.TheVariants.{Immediate, EndOfTerm, Illegal}
+use Rattle.kb_catalog.specs.SmallVersion.{small, no_condition}
+use Rattle.kb_catalog.specs.LookUp.{version_at, plan_at, first_match, fits_cancel}
+
+-- its one plan, by the default list
+found : plan_at small (codes "Gold") Monthly (codes "DEFAULT") ≡ Some (0, 0)
+found = refl
+
+other_period : plan_at small (codes "Gold") Annual (codes "DEFAULT") ≡ None
+other_period = refl
+
+other_list : plan_at small (codes "Gold") Monthly (codes "SALE") ≡ None
+other_list = refl
+
+-- of versions from the days 18262 and 18300 on, the later one is used from its own day on
+first_version : version_at (small ∷ record small { effective = 18300 } ∷ []) 18299 ≡ Some 0
+first_version = refl
+
+second_version : version_at (small ∷ record small { effective = 18300 } ∷ []) 18300 ≡ Some 1
+second_version = refl
+
+no_version : version_at (small ∷ []) 18261 ≡ None
+no_version = refl
+
+-- Gold by the month in its last phase, of a category that the version doesn't tell
+abbrev gold : PlanAsk
+gold = record { product = codes "Gold"; category = None; period = Monthly; list = codes "DEFAULT"; phase = Some Evergreen }
+
+-- a trial ends at once, a base product never by a cancellation, and all else at the end of what is paid for
+abbrev cancel_cases : List CancelCase
+cancel_cases =
+    record { plan = no_condition; phase = Some Trial; policy = Immediate }
+    ∷ record { plan = record no_condition { category = Some Base }; phase = None; policy = Illegal }
+    ∷ record { plan = no_condition; phase = None; policy = EndOfTerm } ∷ []
+
+-- an evergreen phase is no trial, and a category that isn't told is no base product
+last_case : first_match (fits_cancel gold) (λ case. case.policy) cancel_cases ≡ Some EndOfTerm
+last_case = refl
+
+middle_case : first_match (fits_cancel (record gold { category = Some Base })) (λ case. case.policy) cancel_cases ≡ Some Illegal
+middle_case = refl
+
+first_case : first_match (fits_cancel (record gold { phase = Some Trial; category = Some Base })) (λ case. case.policy) cancel_cases ≡ Some Immediate
+first_case = refl

@@ -1,0 +1,129 @@
+//! What billing asks of a valid version.
+ghost use Rattle.std.specs.Prelude.{◌≡◌, ◌<◌, ◌^◌, bytes_eq, length, Some, IfSome, option_map};
+ghost use Rattle.kb_catalog.specs.declared.version.PriceList.{PriceList};
+ghost use Rattle.kb_catalog.specs.Plans.{plan_period};
+ghost use Rattle.kb_catalog.specs.LookUp.{plan_at, place_from, names_sold, is_asked, first_match, fits_change_policy, fits_change_alignment, fits_cancel, fits_create, fits_billing};
+ghost use Rattle.kb_catalog.specs.Cases.{EndOpen};
+
+use crate::case::{decide, same_period};
+use crate::check::has_name;
+use crate::{
+    Align, BillingAlign, ChangeAsk, CreateAlign, Plan, PlanAsk, Policy, PriceList, Rules, Valid,
+};
+use kb_days::{Name, Period};
+
+impl Valid {
+    /// The places of the named list and of the plan that it sells for a product and a billing period, from 0,
+    /// in the version's lists and plans; none exactly where it sells none. No other list is looked in.
+    pub fn find_plan(&self, product: Name, period: Period, list: Name) -> Option<(u32, u32)>
+        ensures { result ≡ plan_at self.now product period list }
+    {
+        let version = self.version();
+        let (list_place, names) = find_list(version.lists.as_slice(), list)?;
+        let plan_place = find_sold(version.plans.as_slice(), product, period, names)?;
+        Some((list_place, plan_place))
+    }
+
+    /// When a change takes effect: by the first case whose conditions all hold.
+    pub fn change_policy(&self, change: &ChangeAsk) -> Policy
+        ensures { first_match (fits_change_policy change.now) (λ case. case.policy) self.now.rules.change_policy ≡ Some result }
+    {
+        decide(
+            self.rules().change_policy.as_slice(),
+            &change.from,
+            &change.to,
+        )
+        .policy
+    }
+
+    /// From which day the phases are counted after a change: by the first case whose conditions all hold.
+    pub fn change_alignment(&self, change: &ChangeAsk) -> Align
+        ensures { first_match (fits_change_alignment change.now) (λ case. case.alignment) self.now.rules.change_alignment ≡ Some result }
+    {
+        decide(
+            self.rules().change_alignment.as_slice(),
+            &change.from,
+            &change.to,
+        )
+        .alignment
+    }
+
+    /// When a cancellation takes effect: by the first case whose conditions all hold.
+    pub fn cancel_policy(&self, now: &PlanAsk) -> Policy
+        ensures { first_match (fits_cancel now.now) (λ case. case.policy) self.now.rules.cancel_policy ≡ Some result }
+    {
+        decide(self.rules().cancel_policy.as_slice(), now, now).policy
+    }
+
+    /// From which day the phases are counted after a start: by the first case whose conditions all hold.
+    pub fn create_alignment(&self, now: &PlanAsk) -> CreateAlign
+        ensures { first_match (fits_create now.now) (λ case. case.alignment) self.now.rules.create_alignment ≡ Some result }
+    {
+        decide(self.rules().create_alignment.as_slice(), now, now).alignment
+    }
+
+    /// Whose cycle day a plan is billed by: by the first case whose conditions all hold.
+    pub fn billing_alignment(&self, now: &PlanAsk) -> BillingAlign
+        ensures { first_match (fits_billing now.now) (λ case. case.alignment) self.now.rules.billing_alignment ≡ Some result }
+    {
+        decide(self.rules().billing_alignment.as_slice(), now, now).alignment
+    }
+
+    /// The rule lists, each of which ends with a case without condition.
+    #[tactic(auto, using(crate::proofs::Holding::endings))]
+    fn rules(&self) -> &Rules
+        ensures same { result.now ≡ self.now.rules }
+        ensures ends_open { EndOpen result.now }
+    {
+        &self.version().rules
+    }
+}
+
+impl Plan {
+    /// The plan's billing period: that of its last phase.
+    pub fn period(&self) -> Period
+        ensures { result ≡ plan_period self.now }
+    {
+        match self.phases.as_slice().split_last() {
+            None => Period::NoBillingPeriod,
+            Some((last, _)) => last.period,
+        }
+    }
+
+    /// Whether the plan has this product and billing period, and is among these names.
+    fn is_asked(&self, product: Name, period: Period, names: &[Name]) -> bool
+        ensures { result ≡ is_asked product period names.now self.now }
+    {
+        product == self.product && same_period(period, self.period()) && has_name(names, &self.name)
+    }
+}
+
+/// The place of the list of a name, and the names that it sells.
+fn find_list(lists: &[PriceList], name: Name) -> Option<(u32, &[Name])>
+    requires counted { length lists.now < 2 ^ 32 }
+    ensures place { option_map (λ found. found.0) result ≡ place_from 0 (λ (list : PriceList). bytes_eq name list.name) lists.now }
+    ensures sold { IfSome result (λ found. found.1.now ≡ names_sold lists.now name) }
+{
+    for (place, list) in lists.iter().enumerate() {
+        if name == list.name {
+            return Some((place as u32, list.plans.as_slice()));
+        }
+    }
+    None
+}
+
+/// The place of the plan with a product and a billing period, among those of these names.
+fn find_sold(plans: &[Plan], product: Name, period: Period, names: &[Name]) -> Option<u32>
+    requires counted { length plans.now < 2 ^ 32 }
+    ensures { result ≡ place_from 0 (is_asked product period names.now) plans.now }
+{
+    for (place, plan) in plans.iter().enumerate() {
+        if plan.is_asked(product, period, names) {
+            return Some(place as u32);
+        }
+    }
+    None
+}
+
+#[cfg(test)]
+mod tests;

@@ -1,0 +1,118 @@
+//! A version of a catalog, as it is written.
+
+use crate::{Align, BillingAlign, Category, CreateAlign, PhaseType, Policy};
+use kb_base::Seq;
+use kb_days::{Day, Name, Period, Span};
+use kb_money::{Currency, Minor};
+
+/// A version of a catalog, with the day from which it is used.
+#[derive(Debug, Drop)]
+pub struct Version {
+    pub effective: Day,
+    pub currencies: Seq<Currency>,
+    pub products: Seq<Product>,
+    pub plans: Seq<Plan>,
+    pub lists: Seq<PriceList>,
+    pub rules: Rules,
+}
+
+/// A product, with the add-ons that may be had with it and those that come with it.
+#[derive(Debug, Drop)]
+pub struct Product {
+    pub name: Name,
+    pub category: Category,
+    pub available: Seq<Name>,
+    pub included: Seq<Name>,
+}
+
+/// A plan of a product: its phases, one after another.
+#[derive(Debug, Drop)]
+pub struct Plan {
+    pub name: Name,
+    pub product: Name,
+    pub phases: Seq<Phase>,
+}
+
+/// A phase of a plan: how long it lasts, what it costs once, and what it costs each billing period.
+#[derive(Debug, Drop)]
+pub struct Phase {
+    pub kind: PhaseType,
+    pub span: Span,
+    pub fixed: Seq<Price>,
+    pub period: Period,
+    pub recurring: Seq<Price>,
+}
+
+/// A price in a currency.
+#[derive(Clone, Copy, Debug, PartialEq, Eq)]
+pub struct Price {
+    pub currency: Currency,
+    pub amount: Minor,
+}
+
+/// A list of plans by which they are sold.
+#[derive(Debug, Drop)]
+pub struct PriceList {
+    pub name: Name,
+    pub plans: Seq<Name>,
+}
+
+/// The rules of a version: five lists of cases, of which the first case that applies decides.
+#[derive(Debug, Drop)]
+pub struct Rules {
+    pub change_policy: Seq<ChangePolicyCase>,
+    pub change_alignment: Seq<ChangeAlignmentCase>,
+    pub cancel_policy: Seq<CancelCase>,
+    pub create_alignment: Seq<CreateCase>,
+    pub billing_alignment: Seq<BillingCase>,
+}
+
+/// What a case asks of a plan; what isn't stated isn't asked.
+#[derive(Clone, Copy, Debug, PartialEq, Eq)]
+pub struct PlanCondition {
+    pub product: Option<Name>,
+    pub category: Option<Category>,
+    pub period: Option<Period>,
+    pub list: Option<Name>,
+}
+
+/// When a change from one plan to another takes effect.
+#[derive(Clone, Copy, Debug, PartialEq, Eq)]
+pub struct ChangePolicyCase {
+    pub from: PlanCondition,
+    pub phase: Option<PhaseType>,
+    pub to: PlanCondition,
+    pub policy: Policy,
+}
+
+/// From which day the phases are counted after a change from one plan to another.
+#[derive(Clone, Copy, Debug, PartialEq, Eq)]
+pub struct ChangeAlignmentCase {
+    pub from: PlanCondition,
+    pub phase: Option<PhaseType>,
+    pub to: PlanCondition,
+    pub alignment: Align,
+}
+
+/// When the cancellation of a plan takes effect.
+#[derive(Clone, Copy, Debug, PartialEq, Eq)]
+pub struct CancelCase {
+    pub plan: PlanCondition,
+    pub phase: Option<PhaseType>,
+    pub policy: Policy,
+}
+
+/// From which day the phases of a plan are counted.
+#[derive(Clone, Copy, Debug, PartialEq, Eq)]
+pub struct CreateCase {
+    pub plan: PlanCondition,
+    pub alignment: CreateAlign,
+}
+
+/// Whose cycle day a plan is billed by.
+#[derive(Clone, Copy, Debug, PartialEq, Eq)]
+pub struct BillingCase {
+    pub plan: PlanCondition,
+    pub phase: Option<PhaseType>,
+    pub alignment: BillingAlign,
+}
