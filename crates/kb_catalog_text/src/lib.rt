@@ -1,0 +1,20 @@
+//! The texts in which a shop hands in its catalog and its overdue rules, in TOML.
+//!
+//! The rule kept here: a text is read by its tables' keys in order, as exactly the value that it says, or refused
+//! by the first fault in that order, by name. The text is kept beside the value, unchanged.
+#![tactic(auto)]
+
+mod catalog;
+mod fault;
+mod format;
+mod from_value;
+mod key_fault;
+mod keys;
+mod kinds;
+mod overdue;
+mod reading;
+mod span_unit;
+mod words;
+
+pub use fault::TextFault;
+pub use reading::{Checked, CheckedOverdue, MAX_BYTES, read, read_overdue};

@@ -1,0 +1,64 @@
+//! The tables of an overdue text.
+ghost use Rattle.toml.specs.View.{table_view};
+ghost use Rattle.kb_catalog_text.specs.Reads.{IsRead, read_table};
+ghost use Rattle.kb_catalog_text.specs.OverdueText.{state_in, states_in};
+
+use crate::from_value::{FromValue, list_or_empty, optional, required, table_of};
+use crate::key_fault::KeyFault;
+use crate::keys::{Among, known_keys};
+use kb_base::Seq;
+use kb_overdue::OverdueState;
+use std::alloc::Global;
+use toml::{Table, Value};
+
+/// The overdue states that a document says.
+pub(crate) fn read_states(alloc: Global, table: &Table) -> Result<Seq<OverdueState>, KeyFault>
+    ensures { IsRead result (states_in (table_view table.now)) }
+{
+    let keys = Among { keys: &["state"] };
+    known_keys(alloc, table, &keys)?;
+    list_or_empty(alloc, table, "state")
+}
+
+impl FromValue for OverdueState {
+    ghost reads = { read_table state_in };
+
+    #[tactic(auto, using(crate::proofs::ReadSteps::inner))]
+    fn read(alloc: Global, key: &str, value: &Value) -> Result<OverdueState, KeyFault> {
+        read_state(alloc, table_of(alloc, key, value)?)
+    }
+}
+
+/// The state that a table says.
+fn read_state(alloc: Global, table: &Table) -> Result<OverdueState, KeyFault>
+    ensures { IsRead result (state_in (table_view table.now)) }
+{
+    let keys = Among {
+        keys: &[
+            "name",
+            "days",
+            "count",
+            "total",
+            "block_change",
+            "block_entitlement",
+            "block_billing",
+        ],
+    };
+    known_keys(alloc, table, &keys)?;
+    let name = required(alloc, table, "name")?;
+    let days = optional(alloc, table, "days")?;
+    let count = optional(alloc, table, "count")?;
+    let total = optional(alloc, table, "total")?;
+    let block_change = required(alloc, table, "block_change")?;
+    let block_entitlement = required(alloc, table, "block_entitlement")?;
+    let block_billing = required(alloc, table, "block_billing")?;
+    Ok(OverdueState {
+        name,
+        days,
+        count,
+        total,
+        block_change,
+        block_entitlement,
+        block_billing,
+    })
+}

@@ -1,0 +1,209 @@
+//! The cases of the five rule lists: each condition, and what a case gives.
+
+use super::shop_text::SHOP;
+use super::{changed, changes_are_told, told};
+use std::alloc::Global;
+use std::process::Abort;
+use std::test::Fail;
+
+/// What is told of the shop with another case before those of a rule list.
+fn told_with(alloc: Global, list: &str, case: &str) -> Result<String, Fail> {
+    let old = format!(in alloc; "{list} = [")?;
+    let new = format!(in alloc; "{list} = [{{{case}}}, ")?;
+    let text = changed(alloc, SHOP, old.as_str(), new.as_str())?;
+    told(alloc, text.as_bytes())
+}
+
+/// Each key of a case with a fitting value, and with others.
+fn conditions_are_told(
+    rt: &impl Abort,
+    alloc: Global,
+    list: &str,
+    gives: &str,
+    keys: &[(&str, &str)],
+) -> Result<(), Fail> {
+    for (key, value) in keys {
+        let case = format!(in alloc; "{key}={value}, {gives}")?;
+        let told = told_with(alloc, list, case.as_str())?;
+        assert_eq!(rt; told.as_str(), "ok", "{list}: {case}");
+        wrong_condition_is_told(rt, alloc, list, gives, key)?;
+    }
+    Ok(())
+}
+
+fn wrong_condition_is_told(
+    rt: &impl Abort,
+    alloc: Global,
+    list: &str,
+    gives: &str,
+    key: &str,
+) -> Result<(), Fail> {
+    let answer = format!(in alloc; "3 {key}")?;
+    for value in ["5", "['TRIAL']", "{}", "'a b'"] {
+        let case = format!(in alloc; "{key}={value}, {gives}")?;
+        let told = told_with(alloc, list, case.as_str())?;
+        assert_eq!(rt; told.as_str(), answer.as_str(), "{list}: {case}");
+    }
+    Ok(())
+}
+
+#[test]
+fn conditions_on_a_change(rt: HostRuntime) -> Result<(), Fail> {
+    let keys = [
+        ("from_product", "'Basic'"),
+        ("from_category", "'BASE'"),
+        ("from_period", "'MONTHLY'"),
+        ("from_list", "'DEFAULT'"),
+        ("phase", "'TRIAL'"),
+        ("to_product", "'Basic'"),
+        ("to_category", "'ADD_ON'"),
+        ("to_period", "'NO_BILLING_PERIOD'"),
+        ("to_list", "'DEFAULT'"),
+    ];
+    let policy = "policy='ILLEGAL'";
+    conditions_are_told(&rt, rt.alloc(), "change_policy", policy, &keys)?;
+    let alignment = "alignment='CHANGE_OF_PLAN'";
+    conditions_are_told(&rt, rt.alloc(), "change_alignment", alignment, &keys)
+}
+
+#[test]
+fn conditions_on_a_plan(rt: HostRuntime) -> Result<(), Fail> {
+    let keys = [
+        ("product", "'Basic'"),
+        ("category", "'STANDALONE'"),
+        ("period", "'THIRTY_DAYS'"),
+        ("list", "'DEFAULT'"),
+    ];
+    let policy = "policy='ILLEGAL'";
+    conditions_are_told(&rt, rt.alloc(), "cancel_policy", policy, &keys)?;
+    let alignment = "alignment='START_OF_BUNDLE'";
+    conditions_are_told(&rt, rt.alloc(), "create_alignment", alignment, &keys)?;
+    let alignment = "alignment='BUNDLE'";
+    conditions_are_told(&rt, rt.alloc(), "billing_alignment", alignment, &keys)
+}
+
+#[test]
+fn what_a_case_gives(rt: HostRuntime) -> Result<(), Fail> {
+    let rows = [
+        ("change_policy", "", "2 policy"),
+        ("change_policy", "policy=5", "3 policy"),
+        ("change_policy", "policy='CHANGE_OF_PLAN'", "3 policy"),
+        ("change_policy", "policy='ILLEGAL', colour=1", "4 colour"),
+        (
+            "change_policy",
+            "policy='ILLEGAL', product='Big'",
+            "4 product",
+        ),
+        ("change_policy", "alignment='CHANGE_OF_PLAN'", "4 alignment"),
+        (
+            "change_policy",
+            "policy='ILLEGAL', to_product='Lost'",
+            "5 12 0",
+        ),
+        ("change_alignment", "", "2 alignment"),
+        ("change_alignment", "alignment=5", "3 alignment"),
+        ("change_alignment", "alignment='ILLEGAL'", "3 alignment"),
+        (
+            "change_alignment",
+            "alignment='CHANGE_OF_PLAN', colour=1",
+            "4 colour",
+        ),
+        ("change_alignment", "policy='ILLEGAL'", "4 policy"),
+        (
+            "change_alignment",
+            "alignment='CHANGE_OF_PLAN', from_list='LOST'",
+            "5 12 1",
+        ),
+        ("cancel_policy", "", "2 policy"),
+        ("cancel_policy", "policy=true", "3 policy"),
+        ("cancel_policy", "policy='ILLEGAL', phase='EVERGREEN'", "ok"),
+        ("cancel_policy", "policy='ILLEGAL', phase=5", "3 phase"),
+        ("cancel_policy", "policy='ILLEGAL', colour=1", "4 colour"),
+        (
+            "cancel_policy",
+            "policy='ILLEGAL', from_product='Big'",
+            "4 from_product",
+        ),
+        (
+            "cancel_policy",
+            "policy='ILLEGAL', product='Lost'",
+            "5 12 2",
+        ),
+        ("create_alignment", "", "2 alignment"),
+        ("create_alignment", "alignment=[]", "3 alignment"),
+        (
+            "create_alignment",
+            "alignment='START_OF_BUNDLE', colour=1",
+            "4 colour",
+        ),
+        (
+            "create_alignment",
+            "alignment='START_OF_BUNDLE', phase='TRIAL'",
+            "4 phase",
+        ),
+        (
+            "create_alignment",
+            "alignment='START_OF_BUNDLE', list='LOST'",
+            "5 12 3",
+        ),
+        ("billing_alignment", "", "2 alignment"),
+        ("billing_alignment", "alignment={}", "3 alignment"),
+        (
+            "billing_alignment",
+            "alignment='BUNDLE', phase='DISCOUNT'",
+            "ok",
+        ),
+        (
+            "billing_alignment",
+            "alignment='BUNDLE', phase=5",
+            "3 phase",
+        ),
+        (
+            "billing_alignment",
+            "alignment='BUNDLE', colour=1",
+            "4 colour",
+        ),
+        (
+            "billing_alignment",
+            "alignment='BUNDLE', product='Lost'",
+            "5 12 4",
+        ),
+    ];
+    for (list, case, answer) in rows {
+        let told = told_with(rt.alloc(), list, case)?;
+        assert_eq!(rt; told.as_str(), answer, "{list}: {case}");
+    }
+    Ok(())
+}
+
+#[test]
+fn a_case_is_a_table(rt: HostRuntime) -> Result<(), Fail> {
+    let rows = [
+        (
+            "change_policy = [",
+            "change_policy = [5,",
+            "3 change_policy",
+        ),
+        (
+            "change_alignment = [",
+            "change_alignment = ['CHANGE_OF_PLAN',",
+            "3 change_alignment",
+        ),
+        (
+            "cancel_policy = [",
+            "cancel_policy = [[],",
+            "3 cancel_policy",
+        ),
+        (
+            "create_alignment = [",
+            "create_alignment = [true,",
+            "3 create_alignment",
+        ),
+        (
+            "billing_alignment = [",
+            "billing_alignment = [1.5,",
+            "3 billing_alignment",
+        ),
+    ];
+    changes_are_told(&rt, rt.alloc(), SHOP, &rows)
+}
