@@ -1,0 +1,3 @@
+pub mod NextDays
+pub mod TurnDays
+pub mod UndatedDays
