@@ -3,11 +3,11 @@ use Rattle.std.proofs.Common.{◌≡◌, ◌⊎◌, inl, inr, ℕ, ◌+◌, ◌<
 use Rattle.kb_base.specs.Runs.{runs}
 use Rattle.kb_base.proofs.Windows.{runs-window}
 use Rattle.kb_days.specs.Calendar.{month_of}
+use Rattle.kb_days.proofs.Marks.{month_of-last_billed}
 use Rattle.kb_days.proofs.Months.{mark-first, month_length-high, month_start-suc, month_of-began}
 use Rattle.kb_due.specs.declared.first.FirstCell.{FirstCell}
 use Rattle.kb_due.specs.FirstDue.{period_end}
 use Rattle.kb_due.proofs.FirstCells.{first_due-before, first_due-after}
-use Rattle.kb_due.proofs.Periods.{month_of-last_cell_day}
 use Rattle.billd.specs.declared.first.item.FirstItem.{FirstItem}
 use Rattle.billd.specs.declared.first.dates.Dates.{Dates}
 use Rattle.billd.specs.Items.{charges_on, wrong_on, missing_on, new_items, repair_of, bill_of, same_cell}
@@ -18,7 +18,7 @@ use Rattle.billd.proofs.OneCharge.{missing-none}
 pub period_end-soon : (day : ℕ) → period_end day ≤ day + 31
 period_end-soon day = omega (arith, month_start-suc (month_of day), month_length-high (month_of day), month_of-began day)
 
-pub ruleset month_ends = (mark-first, period_end-soon, month_of-last_cell_day)
+pub ruleset month_ends = (mark-first, period_end-soon, month_of-last_billed)
 
 -- nothing is due outside
 due_from-outside : (start cancel billed : Option ℕ) (day : ℕ) → IsOutsideOf start billed day → due_from start cancel billed day ≡ None

@@ -1,5 +1,7 @@
 pub mod Months
+pub mod Marks
 pub mod CivilDates
+pub mod TwoYears
 pub mod Reaches
 pub mod Digits
 pub mod CivilTexts

@@ -1,29 +1,10 @@
 -- Months are periods: neighbouring boundaries with the day between them.
-use Rattle.std.proofs.Common.{◌≡◌, ℕ, ◌+◌, ◌<◌, ◌≤◌, refl, sym, ap, ◌∙◌, arith}
-use Rattle.kb_days.specs.Calendar.{first_day, month_start, month_of, month_length}
+use Rattle.std.proofs.Common.{◌≡◌, ℕ, ◌+◌, ◌<◌, ◌≤◌, sym, ap, ◌∙◌, arith}
+use Rattle.kb_days.specs.Calendar.{month_start, month_of}
 use Rattle.kb_days.proofs.Months.{mark-first, month_length-high, month_start-suc, month_start-rises, month_start-order}
+use Rattle.kb_days.proofs.Marks.{month_of-first_day, month_of-last_billed}
 use Rattle.kb_days.proofs.Months.{month_of-began, month_of-not_over, month_of-only, month_of-rises}
-use Rattle.kb_due.specs.FirstDue.{period_start, period_end, last_cell_day, IsPeriod}
-
-january_2000 : month_start 360 ≡ 10957
-unfolding month_start month_length
-january_2000 = refl
-
-february_2102 : month_start 1585 ≡ 48243
-unfolding month_start month_length
-february_2102 = refl
-
--- the days that a command may name lie in or after January 2000
-pub month_of-first_day : (day : ℕ) → first_day ≤ day → 360 ≤ month_of day
-month_of-first_day day h =
-    let order = month_start-order 360 (month_of day + 1) (omega (arith, january_2000, month_of-not_over day)) in
-    omega (arith, order)
-
--- the days on which something may be due lie in or before January 2102
-pub month_of-last_cell_day : (day : ℕ) → day ≤ last_cell_day → month_of day ≤ 1584
-month_of-last_cell_day day h =
-    let order = month_start-order (month_of day) 1585 (omega (arith, february_2102, month_of-began day)) in
-    omega (arith, order)
+use Rattle.kb_due.specs.FirstDue.{period_start, period_end, IsPeriod}
 
 -- a month that begins on or before a day begins no later than the day's month
 month_start-last : (day month : ℕ) → month_start month ≤ day → month_start month ≤ period_start day
@@ -84,7 +65,7 @@ pub period_start-after : (day later : ℕ) → period_end day ≤ later → peri
 period_start-after day later h = month_start-last later (month_of day + 1) h
 
 -- the months of days on which something may be due, and where they start
-pub ruleset months = (month_of-first_day, month_of-last_cell_day, mark-first)
+pub ruleset months = (month_of-first_day, month_of-last_billed, mark-first)
 
 -- each day has a period
 pub ruleset periods = (month-IsPeriod)
