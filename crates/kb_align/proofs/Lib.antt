@@ -1,6 +1,7 @@
 pub mod Starts
 pub mod Lengths
-pub mod Marks
-pub mod TwoYears
+pub mod FirstMonths
 pub mod Neighbours
 pub mod Tiles
+pub mod Searches
+pub mod BoundaryDays

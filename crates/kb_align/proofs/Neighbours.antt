@@ -5,7 +5,8 @@ use Rattle.std.proofs.lemmas.Bool.{cases_lt}
 use Rattle.kb_days.specs.Calendar.{mark}
 use Rattle.kb_align.specs.Between.{IsBetween}
 use Rattle.kb_align.specs.Boundaries.{IsFirstMonth, IsDayBoundary, IsMonthBoundary}
-use Rattle.kb_align.proofs.Marks.{mark-order, IsFirstMonth-only, IsFirstMonth-before}
+use Rattle.kb_days.proofs.Marks.{mark-order}
+use Rattle.kb_align.proofs.FirstMonths.{IsFirstMonth-only, IsFirstMonth-before}
 
 -- of fewer periods come no more days
 times-order : (count k q : ℕ) → k ≤ q → k * count ≤ q * count

@@ -27,8 +27,8 @@ IsBoundary-months start period bcd count day e (inr (other, is, bound)) =
 pub IsPeriodOf-days : (start : ℕ) (period : Period) (bcd count day from to : ℕ) → period_days period ≡ Some count
     → IsBetween (IsDayBoundary count start) day from to → IsPeriodOf start period bcd day from to
 IsPeriodOf-days start period bcd count day from to e is = record {
-  from_boundary = inl (count, e, is.from_such);
-  to_boundary = inl (count, e, is.to_such);
+  from_such = inl (count, e, is.from_such);
+  to_such = inl (count, e, is.to_such);
   begun = is.begun;
   over = is.over;
   greatest = λ other bound h. is.greatest other (IsBoundary-days start period bcd count other e bound) h;
@@ -39,8 +39,8 @@ IsPeriodOf-days start period bcd count day from to e is = record {
 pub IsPeriodOf-months : (start : ℕ) (period : Period) (bcd count day from to : ℕ) → period_months period ≡ Some count
     → IsBetween (IsMonthBoundary count start bcd) day from to → IsPeriodOf start period bcd day from to
 IsPeriodOf-months start period bcd count day from to e is = record {
-  from_boundary = inr (count, e, is.from_such);
-  to_boundary = inr (count, e, is.to_such);
+  from_such = inr (count, e, is.from_such);
+  to_such = inr (count, e, is.to_such);
   begun = is.begun;
   over = is.over;
   greatest = λ other bound h. is.greatest other (IsBoundary-months start period bcd count other e bound) h;
@@ -52,32 +52,32 @@ pub IsPeriodOf-tiles : (start : ℕ) (period : Period) (bcd day from to other fi
     → IsPeriodOf start period bcd other first last → ((first ≡ from) × (last ≡ to)) ⊎ (last ≤ from) ⊎ (to ≤ first)
 IsPeriodOf-tiles start period bcd day from to other first last is is_other =
     elim (cases_lt other from) [
-      | inl before ↦ inr (inl (is_other.least from is.from_boundary before))
+      | inl before ↦ inr (inl (is_other.least from is.from_such before))
       | inr begun ↦
           elim (cases_lt other to) [
-            | inr over ↦ inr (inr (is_other.greatest to is.to_boundary over))
+            | inr over ↦ inr (inr (is_other.greatest to is.to_such over))
             | inl within ↦ inl (first_is begun within, last_is begun within)
           ]
     ]
   where
     first_is : from ≤ other → other < to → first ≡ from
     first_is begun within =
-        let high = is_other.greatest from is.from_boundary begun in
+        let high = is_other.greatest from is.from_such begun in
         elim (cases_lt day first) [
           | inl later ↦
-              let next = is.least first is_other.from_boundary later in
+              let next = is.least first is_other.from_such later in
               let there = is_other.begun in
               absurd (omega (arith, next, there, within))
-          | inr on ↦ let low = is.greatest first is_other.from_boundary on in omega (arith, high, low)
+          | inr on ↦ let low = is.greatest first is_other.from_such on in omega (arith, high, low)
         ]
 
     last_is : from ≤ other → other < to → last ≡ to
     last_is begun within =
-        let high = is_other.least to is.to_boundary within in
+        let high = is_other.least to is.to_such within in
         elim (cases_lt day last) [
-          | inl later ↦ let low = is.least last is_other.to_boundary later in omega (arith, high, low)
+          | inl later ↦ let low = is.least last is_other.to_such later in omega (arith, high, low)
           | inr on ↦
-              let back = is.greatest last is_other.to_boundary on in
+              let back = is.greatest last is_other.to_such on in
               let there = is_other.over in
               absurd (omega (arith, back, there, begun))
         ]

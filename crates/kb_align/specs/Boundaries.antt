@@ -1,8 +1,9 @@
 -- The boundaries of billing periods, and the period of a day.
-use Rattle.std.specs.Prelude.{ℕ, ◌+◌, ◌*◌, ◌%◌, ◌≡◌, ◌<◌, ◌≤◌, ◌⊎◌, Some}
+use Rattle.std.specs.Prelude.{ℕ, ◌+◌, ◌*◌, ◌%◌, ◌≡◌, ◌≤◌, ◌<◌, ◌⊎◌, Some}
 use Rattle.kb_days.specs.Calendar.{mark}
 use Rattle.kb_days.specs.Periods.{period_days, period_months}
 use Rattle.kb_days.specs.declared.period.Period.{Period}
+use Rattle.kb_align.specs.Between.{IsBetween}
 
 -- the first month whose day of this number lies on or after a start
 pub record IsFirstMonth (start bcd month : ℕ) : Type 0 where
@@ -26,10 +27,5 @@ IsBoundary start period bcd day =
     ⊎ ((count : ℕ) × (period_months period ≡ Some count) × IsMonthBoundary count start bcd day)
 
 -- the period of a day: from the greatest boundary on or before the day to the least one after it
-pub record IsPeriodOf (start : ℕ) (period : Period) (bcd day from to : ℕ) : Type 0 where
-  pub from_boundary : IsBoundary start period bcd from
-  pub to_boundary : IsBoundary start period bcd to
-  pub begun : from ≤ day
-  pub over : day < to
-  pub greatest : (other : ℕ) → IsBoundary start period bcd other → other ≤ day → other ≤ from
-  pub least : (other : ℕ) → IsBoundary start period bcd other → day < other → to ≤ other
+abbrev pub IsPeriodOf : ℕ → Period → ℕ → ℕ → ℕ → ℕ → Type 0
+IsPeriodOf start period bcd day from to = IsBetween (IsBoundary start period bcd) day from to

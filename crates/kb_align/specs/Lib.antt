@@ -1,3 +1,4 @@
 pub mod Phases
-pub mod Boundaries
 pub mod Between
+pub mod Boundaries
+pub mod PeriodDays

@@ -1,8 +1,10 @@
 -- When the phases of a plan start: the first one on its anchor, each next one where the one before has lasted its span.
-use Rattle.std.specs.Prelude.{ℕ, ◌≡◌, ◌<◌, ◌≤◌, List, [], ◌∷◌, slice_get, Option, Some, None, option_and_then, refl}
+use Rattle.std.specs.Prelude.{ℕ, ◌≡◌, nat_le, List, [], ◌∷◌, Option, Some, None, option_and_then, if◌then◌else◌, refl}
+use Rattle.std.specs.List.{filter_map, enumerate_from, last_or}
 use Rattle.kb_days.specs.Calendar.{month_of, day_of_month, month_after, month_start, month_length}
 use Rattle.kb_days.specs.Adding.{add_span, reached}
 use Rattle.kb_days.specs.declared.span.Span.{Span}
+use Rattle.kb_align.specs.declared.phases.PhaseAt.{PhaseAt}
 use Rattle.kb_days.specs.declared.span.Span.TheVariants.{Days, Months, Years, Unlimited}
 
 -- the day on which a span from a day on is over, if it is reached
@@ -33,8 +35,26 @@ never_reached : phase_starts 19753 (Unlimited ∷ Days 30 ∷ Days 30 ∷ []) �
 unfolding phase_starts
 never_reached = refl
 
--- the phase of a day, with its start: it starts on or before the day, and each later one that is reached after it
-pub record IsPhaseAt (anchor : ℕ) (spans : List Span) (day index start : ℕ) : Type 0 where
-  pub starts : slice_get (phase_starts anchor spans) index ≡ Some (Some start)
-  pub begun : start ≤ day
-  pub later : (other : ℕ) (next : ℕ) → index < other → slice_get (phase_starts anchor spans) other ≡ Some (Some next) → day < next
+-- a phase with its place from 0, if it starts on or before a day
+abbrev pub begun_by : ℕ → ℕ × Option ℕ → Option PhaseAt
+begun_by day (place, None) = None
+begun_by day (place, Some start) = if nat_le start day then Some (record { index = place; start = start }) else None
+
+-- the phase that governs a day, with its place and start: the last one that starts on or before the day
+unfoldable pub phase_on : ℕ → List Span → ℕ → Option PhaseAt
+phase_on anchor spans day = last_or None (filter_map (begun_by day) (enumerate_from 0 (phase_starts anchor spans)))
+
+-- of phases from 31 January, 1 March and 1 April 2024 on, the second governs 31 March
+in_the_second_phase : phase_on 19753 (Days 30 ∷ Months 1 ∷ Unlimited ∷ []) 19813 ≡ Some (record { index = 1; start = 19783 })
+unfolding phase_on phase_starts day_of_month month_of month_after month_start month_length
+in_the_second_phase = refl
+
+-- and the third governs the day on which it starts
+on_its_start : phase_on 19753 (Days 30 ∷ Months 1 ∷ Unlimited ∷ []) 19814 ≡ Some (record { index = 2; start = 19814 })
+unfolding phase_on phase_starts day_of_month month_of month_after month_start month_length
+on_its_start = refl
+
+-- none governs a day before the anchor
+before_the_anchor : phase_on 19753 (Days 30 ∷ Unlimited ∷ []) 19752 ≡ None
+unfolding phase_on phase_starts
+before_the_anchor = refl

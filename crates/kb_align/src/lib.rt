@@ -8,4 +8,4 @@ mod periods;
 mod phases;
 
 pub use periods::period_of;
-pub use phases::{PhaseAt, phase_at, phase_starts};
+pub use phases::{PhaseAt, begun_phase, next_start, phase_at, phase_starts};

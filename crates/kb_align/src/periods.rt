@@ -2,6 +2,7 @@
 ghost use Rattle.std.specs.Prelude.{◌≡◌, ◌≤◌, ◌<◌, ◌+◌, ◌%◌, ◌⊎◌, ℕ, Some, None};
 ghost use Rattle.kb_days.specs.Calendar.{first_day, month_of};
 ghost use Rattle.kb_days.specs.Periods.{period_days, period_months};
+ghost use Rattle.kb_align.specs.PeriodDays.{period_on};
 ghost use Rattle.kb_align.specs.Between.{IsBetween};
 ghost use Rattle.kb_align.specs.Boundaries.{IsFirstMonth, IsDayBoundary, IsMonthBoundary, IsPeriodOf};
 
@@ -16,6 +17,7 @@ pub fn period_of(start: Reach, period: Period, bcd: Bcd, day: Reach) -> (Reach, 
     requires begun { start ≤ day }
     requires last { day ≤ 48242 }
     ensures period { IsPeriodOf start period bcd day result.0 result.1 }
+    ensures value { period_on start period bcd day ≡ (result.0, result.1) }
     ensures longest { result.1 ≤ result.0 + 731 }
     ensures tiles { (other from to : ℕ) → IsPeriodOf start period bcd other from to
         → ((from ≡ result.0) × (to ≡ result.1)) ⊎ (to ≤ result.0) ⊎ (result.1 ≤ from) }
@@ -79,7 +81,7 @@ fn last_whole(first: u32, months: u32, last: u32) -> u32
 }
 
 /// The first month whose cycle day lies on or after a day.
-#[tactic(auto, using(crate::proofs::Marks::first_months))]
+#[tactic(auto, using(crate::proofs::FirstMonths::first_months))]
 fn first_month(day: Reach, bcd: Bcd) -> u32
     requires named { first_day ≤ day }
     requires last { day ≤ 48242 }
@@ -94,7 +96,7 @@ fn first_month(day: Reach, bcd: Bcd) -> u32
 }
 
 /// The last month whose cycle day lies on or before a day: the next one's is the first after it.
-#[tactic(auto, using(crate::proofs::Marks::first_months))]
+#[tactic(auto, using(crate::proofs::FirstMonths::first_months))]
 fn last_month(day: Reach, bcd: Bcd) -> u32
     requires named { first_day ≤ day }
     requires last { day ≤ 48242 }

@@ -1,6 +1,6 @@
 //! When the phases of a plan start, and which of them governs a day.
-ghost use Rattle.std.specs.Prelude.{◌≡◌, ◌≤◌, ◌<◌, ◌^◌, ℕ, length, Some, None, IfOk, IfSome, option_and_then};
-ghost use Rattle.kb_align.specs.Phases.{over, phase_starts, IsPhaseAt};
+ghost use Rattle.std.specs.Prelude.{◌≡◌, ◌≤◌, ◌<◌, ◌^◌, ℕ, length, Some, IfOk, IfSome, option_and_then};
+ghost use Rattle.kb_align.specs.Phases.{over, phase_starts, begun_by, phase_on};
 
 use kb_base::NoMemory;
 use kb_days::{Day, Reach, Span, add};
@@ -26,7 +26,7 @@ pub fn phase_starts(
     let mut starts = Vec::new(alloc);
     let mut start = Some(anchor.reach());
     for span in spans {
-        let next = after(&start, *span);
+        let next = next_start(&start, *span);
         starts.push(start)?;
         start = next;
     }
@@ -38,7 +38,7 @@ pub fn phase_at(anchor: Day, spans: &[Span], day: Reach) -> PhaseAt
     requires some_phase { 0 < length spans.now }
     requires counted { length spans.now < 2 ^ 32 }
     requires begun { anchor ≤ day }
-    ensures phase { IsPhaseAt anchor spans.now day result.index result.start }
+    ensures phase { phase_on anchor spans.now day ≡ Some result }
 {
     let mut start = Some(anchor.reach());
     let mut last = PhaseAt {
@@ -49,15 +49,14 @@ pub fn phase_at(anchor: Day, spans: &[Span], day: Reach) -> PhaseAt
         if let Some(begun) = begun_phase(place as u32, &start, day) {
             last = begun;
         }
-        start = after(&start, *span);
+        start = next_start(&start, *span);
     }
     last
 }
 
-/// The phase at a place, if it starts on or before a day.
-fn begun_phase(index: u32, start: &Option<Reach>, day: Reach) -> Option<PhaseAt>
-    ensures begun { IfSome result (λ phase. (phase.index ≡ index) × (start.now ≡ Some phase.start) × (phase.start ≤ day)) }
-    ensures not_begun { result ≡ None → IfSome start.now (λ start. day < start) }
+/// The phase at a place, if it is reached and starts on or before a day.
+pub fn begun_phase(index: u32, start: &Option<Reach>, day: Reach) -> Option<PhaseAt>
+    ensures { result ≡ begun_by day (index, start.now) }
 {
     match start {
         Some(start) if *start <= day => Some(PhaseAt {
@@ -68,9 +67,10 @@ fn begun_phase(index: u32, start: &Option<Reach>, day: Reach) -> Option<PhaseAt>
     }
 }
 
-/// The start of the next phase, where the one before has lasted its span.
-fn after(start: &Option<Reach>, span: Span) -> Option<Reach>
-    ensures { result ≡ option_and_then (over span) start.now }
+/// The start of the next phase, where the one before has lasted its span: none where that is never reached.
+pub fn next_start(start: &Option<Reach>, span: Span) -> Option<Reach>
+    ensures value { result ≡ option_and_then (over span) start.now }
+    ensures later { IfSome result (λ next. IfSome start.now (λ start. start < next)) }
 {
     match start {
         Some(start) => add(*start, span),

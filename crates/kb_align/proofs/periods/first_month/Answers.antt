@@ -1,5 +1,5 @@
 use Rattle.std.proofs.Common.{◌<◌, ◌+◌, ap, arith}
-use Rattle.kb_align.proofs.Marks.{IsFirstMonth-next}
+use Rattle.kb_align.proofs.FirstMonths.{IsFirstMonth-next}
 use Rattle.kb_align.proofs.periods.first_month.Goals as goal
 
 pub returns-then-lt : goal.returns-then-lt

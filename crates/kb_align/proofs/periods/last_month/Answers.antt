@@ -1,5 +1,5 @@
 use Rattle.std.proofs.Common.{◌≤◌, ◌+◌, ap, arith}
-use Rattle.kb_align.proofs.Marks.{IsFirstMonth-later}
+use Rattle.kb_align.proofs.FirstMonths.{IsFirstMonth-later}
 use Rattle.kb_align.proofs.periods.last_month.Goals as goal
 
 pub returns-else-lt-clause-next : goal.returns-else-lt-clause-next

@@ -1,6 +1,6 @@
 use Rattle.std.proofs.Common.{arith}
 use Rattle.kb_align.proofs.Neighbours.{month_boundaries}
-use Rattle.kb_align.proofs.TwoYears.{mark-longest}
+use Rattle.kb_days.proofs.TwoYears.{mark-longest}
 use Rattle.kb_align.proofs.periods.period_of_months.Goals as goal
 
 pub returns-clause-period : goal.returns-clause-period

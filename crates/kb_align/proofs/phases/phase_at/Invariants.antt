@@ -1,8 +1,8 @@
--- The walk stands at a phase, and the last phase that begins by the day is known up to there.
-use Rattle.kb_align.specs.Phases.{phase_starts}
-use Rattle.kb_align.proofs.Starts.{IsWalkAt, IsLastBegun}
+-- What is left gives, with the phase that was found, what all phases give.
+use Rattle.std.proofs.Common.{◌≡◌, drop, Some}
+use Rattle.kb_align.specs.Phases.{phase_on}
+use Rattle.kb_align.proofs.Starts.{last_begun}
 use Rattle.kb_align.proofs.phases.phase_at.Given as goal
 
 abbrev pub invariant-loop-place : goal.invariant-loop-place
-invariant-loop-place l =
-    IsWalkAt l.fn.anchor l.spans l.place l.start × IsLastBegun (phase_starts l.fn.anchor l.spans) l.day l.place l.last.index l.last.start
+invariant-loop-place l = last_begun l.day (Some l.last) l.place l.start (drop l.place l.spans) ≡ phase_on l.fn.anchor l.spans l.day
