@@ -1,5 +1,5 @@
 -- The plans of a version, their phases and prices.
-use Rattle.std.specs.Prelude.{ℕ, Bool, true, false, not, ◌&&◌, ◌||◌, bytes_eq, List, [], ◌∷◌}
+use Rattle.std.specs.Prelude.{ℕ, Bool, true, false, not, ◌&&◌, ◌||◌, bytes_eq, List, [], ◌∷◌, find, Option, option_map}
 use Rattle.std.specs.List.{list_any}
 use Rattle.kb_days.specs.declared.span.Span.{Span}
 use Rattle.kb_days.specs.declared.span.Span.TheVariants.{Days, Weeks, Months, Years, Unlimited}
@@ -61,6 +61,10 @@ is_no_period NoBillingPeriod = true
 abbrev pub bills_wrongly : Phase → Bool
 bills_wrongly phase =
     (is_no_period phase.period && not (is_empty phase.recurring)) || (not (is_no_period phase.period) && is_empty phase.recurring)
+
+-- the price in a currency, where there is one
+abbrev pub price_in : List ℕ → List Price → Option ℕ
+price_in currency prices = option_map (λ (price : Price). price.amount) (find (λ (price : Price). bytes_eq currency price.currency) prices)
 
 -- some prices name a currency twice
 abbrev pub has_repeat : List Price → Bool

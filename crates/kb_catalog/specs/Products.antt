@@ -1,5 +1,5 @@
 -- The products of a version.
-use Rattle.std.specs.Prelude.{ℕ, Bool, true, false, not, ◌&&◌, ◌||◌, bytes_eq, List, [], ◌∷◌, ◌++◌}
+use Rattle.std.specs.Prelude.{ℕ, Bool, true, false, not, ◌&&◌, ◌||◌, bytes_eq, List, [], ◌∷◌, ◌++◌, find, Option}
 use Rattle.std.specs.List.{list_any}
 use Rattle.kb_catalog.specs.declared.version.Version.{Version}
 use Rattle.kb_catalog.specs.declared.version.Product.{Product}
@@ -18,6 +18,10 @@ has_name names name = list_any (bytes_eq name) names
 -- a product of this name is there
 abbrev pub has_product : Version → List ℕ → Bool
 has_product version name = list_any (λ (product : Product). bytes_eq name product.name) version.products
+
+-- the product of a name, where it is there
+abbrev pub product_named : Version → List ℕ → Option Product
+product_named version name = find (λ (product : Product). bytes_eq name product.name) version.products
 
 abbrev pub is_base : Category → Bool
 is_base Base = true

@@ -1,5 +1,5 @@
 -- The twelve rules of a version: where each is broken, and the first that is.
-use Rattle.std.specs.Prelude.{ℕ, ◌+◌, ◌≡◌, Bool, not, ◌&&◌, ◌||◌, ◌==◌, bytes_eq, List, [], ◌∷◌, length, Option, Some, None, max, ◌<◌, ◌^◌}
+use Rattle.std.specs.Prelude.{ℕ, ◌+◌, ◌≡◌, Bool, not, ◌&&◌, ◌||◌, ◌==◌, bytes_eq, List, [], ◌∷◌, length, Option, Some, None, max, ◌<◌, ◌^◌, All}
 use Rattle.std.specs.List.{list_any}
 use Rattle.kb_catalog.specs.declared.version.Version.{Version}
 use Rattle.kb_catalog.specs.declared.version.Product.{Product}
@@ -101,8 +101,9 @@ fault_of version = fault_among version all_rules
 abbrev pub IsValid : Version → Type 0
 IsValid version = fault_of version ≡ None
 
--- the lists of a version have fewer than 2^32 members
+-- the lists of a version, and the phases of each plan, have fewer than 2^32 members
 abbrev pub HasCounts : Version → Type 0
 HasCounts version =
     (length version.currencies < 2 ^ 32) × (length version.products < 2 ^ 32)
     × (length version.plans < 2 ^ 32) × (length version.lists < 2 ^ 32)
+    × All (λ (plan : Plan). length plan.phases < 2 ^ 32) version.plans

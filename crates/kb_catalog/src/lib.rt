@@ -10,6 +10,7 @@ mod case;
 mod catalog;
 mod check;
 mod lookup;
+mod parts;
 mod rule;
 #[cfg(test)]
 mod samples;

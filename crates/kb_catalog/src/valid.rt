@@ -1,10 +1,11 @@
 //! Versions whose rules hold.
-ghost use Rattle.std.specs.Prelude.{◌≡◌, ◌<◌, ◌^◌, ◌↔◌, IsTrue, nat_lt, length, Err, Some, IsOk, IfOk};
+ghost use Rattle.std.specs.Prelude.{◌≡◌, ◌<◌, ◌^◌, ◌↔◌, IsTrue, nat_lt, length, Err, Some, IsOk, IfOk, All};
+ghost use Rattle.kb_catalog.specs.declared.version.Plan.{Plan};
 ghost use Rattle.kb_catalog.specs.declared.rule.CatalogFault.{CatalogFault};
 ghost use Rattle.kb_catalog.specs.VersionRules.{fault_of, IsValid, HasCounts};
 
 use crate::check::fault_of;
-use crate::{CatalogFault, Version};
+use crate::{CatalogFault, Plan, Version};
 use std::marker::Model;
 
 /// A version whose twelve rules hold.
@@ -25,8 +26,8 @@ impl Model for Valid {
 }
 
 impl Version {
-    /// Whether the lists of currencies, products, plans and price lists have each fewer than 2^32 members, so that a
-    /// `u32` numbers their places.
+    /// Whether the lists of currencies, products, plans and price lists have each fewer than 2^32 members, and so have
+    /// the phases of each plan, so that a `u32` numbers their places.
     pub fn has_counts(&self) -> bool
         ensures { IsTrue result ↔ HasCounts self.now }
     {
@@ -34,6 +35,7 @@ impl Version {
             && is_counted(self.products.as_slice())
             && is_counted(self.plans.as_slice())
             && is_counted(self.lists.as_slice())
+            && are_phases_counted(self.plans.as_slice())
     }
 
     /// The version, if its rules hold; else the first rule that it breaks, and that rule's first offender.
@@ -59,6 +61,13 @@ impl Valid {
     {
         &self.version
     }
+}
+
+/// Whether each of these plans has fewer than 2^32 phases.
+fn are_phases_counted(plans: &[Plan]) -> bool
+    ensures { IsTrue result ↔ All (λ (plan : Plan). length plan.phases < 2 ^ 32) plans.now }
+{
+    plans.iter().all(|plan| is_counted(plan.phases.as_slice()))
 }
 
 /// Whether a list has fewer than 2^32 members.

@@ -1,5 +1,4 @@
 pub mod ReadSteps
-pub mod ListTests
 pub mod Told
 pub mod PriceSteps
 pub mod TextSteps

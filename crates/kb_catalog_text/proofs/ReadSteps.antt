@@ -27,11 +27,6 @@ pub required-some : {A : Type 0} (read : List ℕ → Data → Read A) (key : Li
 unfolding required
 required-some read key entries value some = rw some refl
 
-pub optional-some : {A : Type 0} (read : List ℕ → Data → Read A) (key : List ℕ) (entries : Members) (value : Data)
-    → get_member key entries ≡ Some value → optional read key entries ≡ and_then (read key value) (λ found. Ok (Some found))
-unfolding optional
-optional-some read key entries value some = rw some refl
-
 pub read_or-some : {A : Type 0} (other : A) (read : List ℕ → Data → Read A) (key : List ℕ) (entries : Members) (value : Data)
     → get_member key entries ≡ Some value → read_or other read key entries ≡ read key value
 unfolding read_or
@@ -48,7 +43,7 @@ pub optional-fault : {A : Type 0} (read : List ℕ → Data → Read A) (key : L
 unfolding optional
 optional-fault read key entries value fault some is = rw (some, is) refl
 
-pub ruleset at_key = (required-none, required-some, optional-none, optional-some, read_or-none, read_or-some)
+pub ruleset at_key = (required-none, required-some, optional-none, read_or-none, read_or-some)
 
 -- the elements that are read before the others
 pub read_items-more : {A : Type 0} (read : List ℕ → Data → Read A) (key : List ℕ) (value : Data) (later : Items) (before : List A) (first : A)
