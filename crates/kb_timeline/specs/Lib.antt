@@ -1,0 +1,4 @@
+pub mod EntryDays
+pub mod SubscriptionEdits
+pub mod TimelineEdits
+pub mod SmallTimeline
