@@ -1,3 +1,6 @@
-pub mod NextDays
+pub mod Matters
+pub mod CutStays
+pub mod AddedStays
+pub mod CountedStays
+pub mod Sweep
 pub mod TurnDays
-pub mod UndatedDays

@@ -1,3 +1,4 @@
 pub mod Blocking
-pub mod Dated
 pub mod SmallBlocks
+pub mod Stays
+pub mod Stretches

@@ -1,13 +1,13 @@
-//! The blocking states of an account.
+//! The blocking states of an account. Beside them stands how long each counts, so that a day is asked by one walk.
 ghost use Rattle.std.specs.Prelude.{◌≡◌, ◌<◌, ◌≤◌, ◌↔◌, ◌++◌, ◌∷◌, [], ℕ, true, length, Contains, AllPairs, Err, IfOk, IfErr};
 ghost use Rattle.kb_blocking.specs.Blocking.{is_on, turns};
 
-use crate::on_day::is_on;
+use crate::stay::{Stay, is_any_on, with_stay};
 use crate::turning::turning_days;
 use crate::{BlockState, Chain, Flag};
 use kb_base::{NoMemory, Seq};
 use kb_days::{Day, Reach};
-use std::alloc::{AllocError, AllocFailed, Global};
+use std::alloc::Global;
 use std::marker::Model;
 use thiserror::Error;
 
@@ -18,18 +18,20 @@ const MOST_STATES: usize = 4096;
 #[derive(Debug, Drop)]
 pub struct Blocks {
     states: Seq<BlockState>,
+    stays: Seq<Stay>,
 }
 
 impl Model for Blocks {
     ghost use Rattle.std.specs.Prelude.{◌≤◌, List, length};
     ghost use Rattle.kb_blocking.specs.declared.state.BlockState.{BlockState};
     ghost use Rattle.kb_blocking.specs.Blocking.{most_states};
+    ghost use Rattle.kb_blocking.specs.Stays.{AreStays};
 
     ghost Value = { List BlockState };
 
     ghost view = { λ blocks. blocks.states };
 
-    ghost invariant = { λ blocks. length blocks.states ≤ most_states };
+    ghost invariant = { λ blocks. (length blocks.states ≤ most_states) × AreStays blocks.states blocks.stays };
 }
 
 /// Why a state isn't added.
@@ -43,22 +45,12 @@ pub enum AddFault {
     NoMemory,
 }
 
-impl From<AllocError> for AddFault {
-    ghost use Rattle.kb_blocking.specs.declared.blocks.AddFault.TheVariants.{NoMemory};
+impl From<NoMemory> for AddFault {
+    ghost use Rattle.kb_blocking.specs.declared.blocks.AddFault.TheVariants as fault;
 
-    ghost from_gives = { λ _ fault. fault ≡ NoMemory };
+    ghost from_gives = { λ _ given. given ≡ fault.NoMemory };
 
-    fn from(_: AllocError) -> AddFault {
-        AddFault::NoMemory
-    }
-}
-
-impl<T: Drop> From<AllocFailed<T>> for AddFault {
-    ghost use Rattle.kb_blocking.specs.declared.blocks.AddFault.TheVariants.{NoMemory};
-
-    ghost from_gives = { λ _ fault. fault ≡ NoMemory };
-
-    fn from(_: AllocFailed<T>) -> AddFault {
+    fn from(_: NoMemory) -> AddFault {
         AddFault::NoMemory
     }
 }
@@ -70,6 +62,7 @@ impl Blocks {
     {
         Blocks {
             states: Seq::new(alloc),
+            stays: Seq::new(alloc),
         }
     }
 
@@ -89,15 +82,16 @@ impl Blocks {
         if self.states.len() == MOST_STATES {
             return Err(AddFault::Limit);
         }
+        let stays = with_stay(alloc, self.stays.as_slice(), &state)?;
         let states = with_state(alloc, self.states.as_slice(), state)?;
-        Ok(Blocks { states })
+        Ok(Blocks { states, stays })
     }
 
     /// Whether a flag is on for a chain on a day. It takes no memory.
     pub fn blocked(&self, chain: Chain, flag: Flag, day: Reach) -> bool
         ensures { result ≡ is_on self.now chain flag day }
     {
-        is_on(self.states.as_slice(), chain, flag, day.number())
+        is_any_on(self.stays.as_slice(), chain, flag, day.number())
     }
 
     /// The days on which a flag differs from the day before, rising.
@@ -106,7 +100,7 @@ impl Blocks {
             → (Contains days.items day ↔ (turns self.now chain flag day ≡ true))) }
         ensures rising { IfOk result (λ days. AllPairs (λ earlier later. earlier < later) days.items) }
     {
-        turning_days(alloc, self.states.as_slice(), chain, flag)
+        turning_days(alloc, self.stays.as_slice(), chain, flag)
     }
 }
 
@@ -115,9 +109,8 @@ fn with_state(
     alloc: Global,
     states: &[BlockState],
     state: BlockState,
-) -> Result<Seq<BlockState>, AddFault>
-    ensures added { IfOk result (λ longer. longer ≡ states.now ++ state ∷ []) }
-    ensures memory { IfErr result (λ fault. fault ≡ AddFault.NoMemory) }
+) -> Result<Seq<BlockState>, NoMemory>
+    ensures { IfOk result (λ longer. longer ≡ states.now ++ state ∷ []) }
 {
     // The check has to see a day in a state that is pushed.
     let _day = state.day;

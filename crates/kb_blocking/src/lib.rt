@@ -7,9 +7,11 @@
 
 mod blocks;
 mod chain;
-mod last_state;
-mod on_day;
+mod flags;
+mod matter;
 mod state;
+mod stay;
+mod stretch;
 mod turning;
 
 pub use blocks::{AddFault, Blocks};

@@ -1,11 +1,14 @@
-//! The days on which a flag turns. It turns only on the day of a state of the chain, so those days are walked.
-ghost use Rattle.std.specs.Prelude.{◌≡◌, ◌<◌, ◌↔◌, ℕ, true, Contains, AllPairs, IfOk};
-ghost use Rattle.kb_blocking.specs.Blocking.{turns};
-ghost use Rattle.kb_blocking.specs.Dated.{earlier_of, sooner, next_dated};
+//! The days on which a flag turns: where stretches that touch or overlap are one, the first day and the end of each.
+ghost use Rattle.std.specs.Prelude.{◌≡◌, ◌<◌, ◌↔◌, ◌-◌, ℕ, true, Contains, AllPairs, IfOk, OnOk, ◌++◌, option_to_list};
+ghost use Rattle.std.specs.List.{list_any};
+ghost use Rattle.std.specs.List.Sorted.{IsPermutation, IsNonDecreasingBy};
+ghost use Rattle.kb_blocking.specs.Blocking.{differ};
+ghost use Rattle.kb_blocking.specs.Stays.{counts_on};
+ghost use Rattle.kb_blocking.specs.Stretches.{turn_days};
 
-use crate::chain::is_on_chain;
-use crate::on_day::is_on;
-use crate::{BlockState, Chain, Flag};
+use crate::stay::Stay;
+use crate::stretch::{Stretch, later_end, stretches_of, touches};
+use crate::{Chain, Flag};
 use kb_base::NoMemory;
 use kb_days::Day;
 use std::alloc::Global;
@@ -13,62 +16,58 @@ use std::alloc::Global;
 /// The days on which a flag differs from the day before, rising.
 pub(crate) fn turning_days(
     alloc: Global,
-    states: &[BlockState],
+    stays: &[Stay],
     chain: Chain,
     flag: Flag,
 ) -> Result<Vec<Day>, NoMemory>
-    ensures exactly { IfOk result (λ days. (day : ℕ)
-        → (Contains days.items day ↔ (turns states.now chain flag day ≡ true))) }
+    ensures exactly { IfOk result (λ days. (day : ℕ) → (Contains days.items day
+        ↔ (differ (list_any (counts_on chain flag day) stays.now) (list_any (counts_on chain flag (day - 1)) stays.now) ≡ true))) }
     ensures rising { IfOk result (λ days. AllPairs (λ earlier later. earlier < later) days.items) }
 {
+    let mut stretches = stretches_of(alloc, stays, chain, flag)?;
+    sort(&mut stretches)?;
+    turn_days(alloc, &stretches)
+}
+
+/// Sorts stretches by their first days.
+fn sort(stretches: &mut Vec<Stretch>) -> Result<(), NoMemory>
+    ensures same { OnOk result (IsPermutation stretches.old.items stretches.new.items) }
+    ensures sorted { OnOk result (IsNonDecreasingBy (λ stretch. stretch.from) stretches.new.items) }
+{
+    stretches.sort_by_key(|stretch| stretch.from.number())?;
+    Ok(())
+}
+
+/// The first days and the ends, where stretches that touch or overlap are one; the stretches are in the order of their
+/// first days.
+fn turn_days(alloc: Global, stretches: &[Stretch]) -> Result<Vec<Day>, NoMemory>
+    ensures { IfOk result (λ days. days.items ≡ turn_days stretches.now) }
+{
     let mut days = Vec::new(alloc);
-    let mut last = 0;
-    while let Some(day) = next_dated(states, chain, last) {
-        if turns(states, chain, flag, day) {
-            days.push(day)?;
+    let Some((first, later)) = stretches.split_first() else {
+        return Ok(days);
+    };
+    days.push(first.from)?;
+    let mut until = first.until;
+    for stretch in later {
+        if touches(&until, stretch.from) {
+            until = later_end(&until, &stretch.until);
+        } else {
+            push_end(&mut days, &until)?;
+            days.push(stretch.from)?;
+            until = stretch.until;
         }
-        last = day.number();
     }
+    push_end(&mut days, &until)?;
     Ok(days)
 }
 
-/// Whether a flag differs on a day from what it is on the day before.
-fn turns(states: &[BlockState], chain: Chain, flag: Flag, day: Day) -> bool
-    ensures { result ≡ turns states.now chain flag day }
+/// Adds an end, if there is one.
+fn push_end(days: &mut Vec<Day>, until: &Option<Day>) -> Result<(), NoMemory>
+    ensures { OnOk result (days.new.items ≡ days.old.items ++ option_to_list until.now) }
 {
-    let is_on_now = is_on(states, chain, flag, day.number());
-    let was_on = is_on(states, chain, flag, day.number() - 1);
-    if is_on_now { !was_on } else { was_on }
-}
-
-/// The first day after a day on which a state of a chain is dated.
-fn next_dated(states: &[BlockState], chain: Chain, after: u32) -> Option<Day>
-    ensures { result ≡ next_dated states.now chain after }
-{
-    let mut found = None;
-    for state in states {
-        found = sooner(chain, after, found, state);
+    if let Some(until) = until {
+        days.push(*until)?;
     }
-    found
-}
-
-/// Of what was found and a state, the earlier day of those after a day on a chain.
-fn sooner(chain: Chain, after: u32, found: Option<Day>, state: &BlockState) -> Option<Day>
-    ensures { result ≡ sooner chain after found state.now }
-{
-    if is_on_chain(chain, state.scope) && after < state.day.number() {
-        Some(earlier_of(found, state.day))
-    } else {
-        found
-    }
-}
-
-/// Of what was found and a day, the earlier.
-fn earlier_of(found: Option<Day>, day: Day) -> Day
-    ensures { result ≡ earlier_of found day }
-{
-    match found {
-        Some(found) if found <= day => found,
-        _ => day,
-    }
+    Ok(())
 }

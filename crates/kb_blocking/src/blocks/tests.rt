@@ -133,40 +133,25 @@ fn the_order_of_two_states(rt: HostRuntime) -> Result<(), Fail> {
     Ok(())
 }
 
-/// So many states, one each day from the day 20000 on.
-fn daily(alloc: Global, count: u32) -> Result<Blocks, Fail> {
-    let mut states = Vec::new(alloc);
-    for place in 0..count {
-        let next = state(&(
-            Scope::Account,
-            "fraud",
-            place.saturating_add(20_000),
-            FROZEN,
-        ))?;
-        // The check has to see a day in a state that is pushed.
-        let _day = next.day;
-        states.push(next)?;
-    }
-    if states.len() > MOST_STATES {
-        return Err("too many states".into());
-    }
-    Ok(Blocks {
-        states: Seq::from_vec(states),
-    })
+/// The state of an account that is added to others.
+fn one_more() -> Result<BlockState, Fail> {
+    state(&(Scope::Account, "fraud", 30_000, CLEAR))
 }
 
 #[test]
 fn at_most_4096_states(rt: HostRuntime) -> Result<(), Fail> {
     let alloc = rt.alloc();
-    // states that are there, and why one more isn't added
-    let cases = [(0, None), (4095, None), (4096, Some(AddFault::Limit))];
-    for (count, fault) in cases {
-        let blocks = daily(alloc, count)?;
-        let one_more = state(&(Scope::Account, "fraud", 30_000, CLEAR))?;
-        let added = blocks.add(alloc, one_more);
-        assert_eq!(rt; added.err(), fault, "{count}");
-        assert_eq!(rt; blocks.states().len(), count as usize, "{count}");
+    let mut blocks = Blocks::new(alloc);
+    for place in 0..4095 {
+        blocks = blocks.add(
+            alloc,
+            state(&(Scope::Bundle(place), "fraud", 20_000, FROZEN))?,
+        )?;
     }
+    let full = blocks.add(alloc, one_more()?)?;
+    assert_eq!(rt; full.states().len(), 4096);
+    assert_eq!(rt; full.add(alloc, one_more()?).err(), Some(AddFault::Limit));
+    assert_eq!(rt; full.states().len(), 4096);
     Ok(())
 }
 

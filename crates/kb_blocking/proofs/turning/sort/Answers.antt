@@ -1,0 +1,8 @@
+use Rattle.std.proofs.Common.{rules}
+use Rattle.std.proofs.lemmas.List.Sorted.{IsNonDecreasingBy-from_sort_by_key}
+use Rattle.kb_blocking.specs.declared.stretch.Stretch.{Stretch}
+use Rattle.kb_blocking.proofs.turning.sort.Goals as goal
+
+pub returns-clause-sorted : goal.returns-clause-sorted
+returns-clause-sorted c =
+    IsNonDecreasingBy-from_sort_by_key (λ (stretch : Stretch). stretch.from) _ c.in_ok-sort_by_key.ensures.sorted (λ a r q k. search rules)
