@@ -1,2 +1,4 @@
 pub mod FirstCells
 pub mod Periods
+pub mod KeptDays
+pub mod CountedPhases

@@ -1,1 +1,9 @@
 pub mod FirstDue
+pub mod Facts
+pub mod Governing
+pub mod Life
+pub mod CycleDays
+pub mod Cells
+pub mod DueDays
+pub mod Entitlements
+pub mod SmallFacts

@@ -1,10 +1,30 @@
 //! What is due: the cell that each day of a subscription is charged by.
 //!
-//! The rule kept here: a day is due where its subscription is live and its period has begun by the
-//! billed date, and its cell is that period with its price. Layers above ask `first_due` day by
-//! day, and cite the laws of cells.
+//! The rule kept here: a day is charged by its cell, where the subscription is live, its billing isn't blocked and its
+//! phase has a recurring price, once the cell's period and what last changed it have begun by the billed date. Layers
+//! above ask day by day, and measure whatever is quicker against these answers.
 #![tactic(auto)]
 
+mod cell;
+mod cell_day;
+mod chain;
+mod cycle_day;
+mod due;
+mod entitlement;
+mod facts;
+mod fee;
 mod first;
+mod governing;
+mod life;
+#[cfg(test)]
+mod samples;
+#[cfg(test)]
+mod tests;
 
+pub use cell::{Cell, Piece};
+pub use due::due_on;
+pub use entitlement::{Entitlement, state_on};
+pub use facts::Facts;
+pub use fee::fee_on;
 pub use first::{FirstCell, first_due};
+pub use life::live;

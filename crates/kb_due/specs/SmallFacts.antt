@@ -1,0 +1,146 @@
+-- Two subscriptions of one bundle in March 2024, of which the second is an add-on.
+use Rattle.std.specs.Prelude.{ℕ, ◌≡◌, true, false, [], ◌∷◌, List, codes, Some, None, refl}
+use Rattle.kb_days.specs.Calendar.{month_of, month_after, month_start, month_length}
+use Rattle.kb_days.specs.declared.span.Span.TheVariants.{Days, Unlimited}
+use Rattle.kb_days.specs.declared.period.Period.TheVariants.{Monthly, NoBillingPeriod}
+use Rattle.kb_catalog.specs.declared.version.Version.{Version}
+use Rattle.kb_catalog.specs.declared.version.Product.{Product}
+use Rattle.kb_catalog.specs.declared.version.Plan.{Plan}
+use Rattle.kb_catalog.specs.declared.version.Phase.{Phase}
+use Rattle.kb_catalog.specs.declared.words.Category.TheVariants.{Base, AddOn}
+use Rattle.kb_catalog.specs.declared.words.PhaseType.TheVariants.{Trial, Evergreen}
+use Rattle.kb_catalog.specs.SmallVersion.{small}
+use Rattle.kb_align.specs.Phases.{phase_on, phase_starts}
+use Rattle.kb_align.specs.PeriodDays.{period_on, last_day_on, next_day_after, is_boundary, first_month}
+use Rattle.kb_timeline.specs.declared.entry.Entry.{Entry}
+use Rattle.kb_timeline.specs.declared.subscription.Subscription.{Subscription}
+use Rattle.kb_blocking.specs.declared.state.Scope.TheVariants.{Account}
+use Rattle.kb_blocking.specs.Blocking.{is_on}
+use Rattle.kb_due.specs.declared.cell.Cell.{Cell}
+use Rattle.kb_due.specs.declared.entitlement.Entitlement.TheVariants.{Pending, Active, Blocked, Cancelled}
+use Rattle.kb_due.specs.Facts.{FactsValue}
+use Rattle.kb_due.specs.Life.{is_kept, is_live}
+use Rattle.kb_due.specs.Cells.{cell_on}
+use Rattle.kb_due.specs.DueDays.{due_on, charged_until, fee_on}
+use Rattle.kb_due.specs.Entitlements.{state_of, state_on}
+
+-- Basic is offered with Extra and More, Gold with Extra alone
+abbrev products : List Product
+products =
+    record { name = codes "Basic"; category = Base; available = codes "Extra" ∷ codes "More" ∷ []; included = [] }
+    ∷ record { name = codes "Gold"; category = Base; available = codes "Extra" ∷ []; included = [] }
+    ∷ record { name = codes "Extra"; category = AddOn; available = []; included = [] }
+    ∷ record { name = codes "More"; category = AddOn; available = []; included = [] }
+    ∷ []
+
+-- 1000 a month without end
+abbrev monthly : Phase
+monthly = record { kind = Evergreen; span = Unlimited; fixed = []; period = Monthly; recurring = record { currency = codes "USD"; amount = 1000 } ∷ [] }
+
+-- 30 days at 500 in all
+abbrev trial : Phase
+trial = record { kind = Trial; span = Days 30; fixed = record { currency = codes "USD"; amount = 500 } ∷ []; period = NoBillingPeriod; recurring = [] }
+
+abbrev plan : List ℕ → List Phase → Plan
+plan product phases = record { name = product; product = product; phases = phases }
+
+-- a plan of each product, of which Basic begins with the trial
+abbrev version : Version
+version = record small {
+  products = products;
+  plans = plan (codes "Basic") (trial ∷ monthly ∷ []) ∷ plan (codes "Gold") (monthly ∷ []) ∷ plan (codes "Extra") (monthly ∷ []) ∷ plan (codes "More") (monthly ∷ []) ∷ [];
+}
+
+-- the plan at a place on a day, its phases counted from an anchor
+abbrev entry : ℕ → ℕ → ℕ → Entry
+entry place day anchor = record { day = day; plan = record { version = 0; list = 0; plan = place }; anchor = anchor }
+
+-- Basic from 1 March, Gold from 11 March on
+abbrev lead : Subscription
+lead = record { name = codes "s1"; bundle = 0; addon = false; entries = entry 0 19783 19783 ∷ entry 1 19793 19783 ∷ []; cancel = None }
+
+-- Extra from 1 March, More from 21 March on
+abbrev addon : Subscription
+addon = record { name = codes "s2"; bundle = 0; addon = true; entries = entry 2 19783 19783 ∷ entry 3 19803 19783 ∷ []; cancel = None }
+
+abbrev facts : FactsValue
+facts = record {
+  catalog = version ∷ [];
+  timeline = record { bundles = codes "b1" ∷ []; subscriptions = lead ∷ addon ∷ [] };
+  blocks = [];
+  currency = codes "USD";
+  bcd = 1;
+}
+
+live_from_its_start : is_live facts 0 19783 ≡ true
+live_from_its_start = refl
+
+not_before_it : is_live facts 0 19782 ≡ false
+not_before_it = refl
+
+-- Gold offers Extra and doesn't offer More
+add_on_that_is_offered : is_live facts 1 19802 ≡ true
+unfolding is_kept
+add_on_that_is_offered = refl
+
+add_on_that_is_offered_no_more : is_live facts 1 19803 ≡ false
+unfolding is_kept
+add_on_that_is_offered_no_more = refl
+
+-- the trial isn't charged by periods
+no_cell_in_the_trial : cell_on facts lead 0 19785 ≡ None
+unfolding cell_on is_on phase_on phase_starts
+no_cell_in_the_trial = refl
+
+-- from 11 March on each day is charged by its month
+abbrev march : Cell
+march = record { plan = record { version = 0; list = 0; plan = 1 }; phase = 0; start = 19783; end = 19814; price = 1000 }
+
+cell_of_12_march : cell_on facts lead 0 19794 ≡ Some march
+unfolding cell_on is_on phase_on phase_starts period_on last_day_on next_day_after is_boundary first_month month_of month_after month_start month_length
+cell_of_12_march = refl
+
+-- which is due once the change is dated on or before the billed date
+due_at_the_change : due_on facts 0 19793 19794 ≡ Some march
+unfolding due_on cell_on is_on phase_on phase_starts period_on last_day_on next_day_after is_boundary first_month month_of month_after month_start month_length
+due_at_the_change = refl
+
+not_due_before_it : due_on facts 0 19792 19794 ≡ None
+unfolding due_on cell_on is_on phase_on phase_starts period_on last_day_on next_day_after is_boundary first_month month_of month_after month_start month_length
+not_due_before_it = refl
+
+-- and so are all days of March from then on, and none in April
+charged_to_the_end_of_march : charged_until 19816 facts 0 19793 ≡ Some 19814
+unfolding charged_until due_on cell_on is_on phase_on phase_starts period_on last_day_on next_day_after is_boundary first_month month_of month_after month_start month_length
+charged_to_the_end_of_march = refl
+
+-- the trial is charged once, on the day on which it starts
+fee_of_1_march : fee_on facts 0 19783 19783 ≡ Some (record { plan = record { version = 0; list = 0; plan = 0 }; phase = 0; start = 19783; end = 19784; price = 500 })
+unfolding fee_on phase_on phase_starts
+fee_of_1_march = refl
+
+no_fee_on_the_next_day : fee_on facts 0 19783 19784 ≡ None
+unfolding fee_on phase_on phase_starts
+no_fee_on_the_next_day = refl
+
+-- the account is blocked for use, and not for billing, from 15 March on
+abbrev frozen : FactsValue
+frozen = record facts {
+  blocks = record { scope = Account; service = codes "fraud"; state = codes "HOLD"; day = 19797; flags = record { change = false; entitlement = true; billing = false } } ∷ [];
+}
+
+pending_before_the_start : state_on frozen 0 19782 ≡ Some Pending
+unfolding state_of
+pending_before_the_start = refl
+
+active_on_14_march : state_on frozen 0 19796 ≡ Some Active
+unfolding state_of is_on
+active_on_14_march = refl
+
+blocked_on_15_march : state_on frozen 0 19797 ≡ Some Blocked
+unfolding state_of is_on
+blocked_on_15_march = refl
+
+cancelled_once_it_is_offered_no_more : state_on frozen 1 19803 ≡ Some Cancelled
+unfolding state_of is_kept
+cancelled_once_it_is_offered_no_more = refl

@@ -1,0 +1,73 @@
+//! The cell of a day.
+ghost use Rattle.std.specs.Prelude.{◌≡◌, ◌<◌, ◌≤◌, ◌+◌, IfSome};
+ghost use Rattle.kb_days.specs.Calendar.{first_day};
+ghost use Rattle.kb_due.specs.Cells.{is_unbilled, cell_by, cell_on};
+ghost use Rattle.kb_due.specs.DueDays.{last_billed};
+
+use crate::chain::chain_of;
+use crate::cycle_day::cycle_day;
+use crate::governing::{Governing, governing_on};
+use crate::life::is_live;
+use crate::{Cell, Facts};
+use kb_align::period_of;
+use kb_blocking::Flag;
+use kb_days::{Period, Reach};
+use kb_timeline::Subscription;
+
+/// The cell of a day of a subscription: none where it isn't live, or its billing is blocked.
+#[tactic(auto, unfolding(crate::specs::Cells::cell_on))]
+pub(crate) fn cell_on(
+    facts: &Facts,
+    subscription: &Subscription,
+    sub: u32,
+    day: Reach,
+) -> Option<Cell>
+    requires told { day ≤ last_billed }
+    ensures value { result ≡ cell_on facts.now subscription.now sub day }
+    ensures has_day { IfSome result (λ cell. (cell.start ≤ day) × (day < cell.end)) }
+    ensures longest { IfSome result (λ cell. cell.end ≤ cell.start + 731) }
+{
+    if !is_live(facts, subscription, day) || is_unbilled(facts, subscription, sub, day) {
+        return None;
+    }
+    let governing = governing_on(facts.catalog, &subscription.entries, day)?;
+    cell_by(facts, subscription, day, &governing)
+}
+
+/// Whether billing is blocked for a subscription on a day.
+fn is_unbilled(facts: &Facts, subscription: &Subscription, sub: u32, day: Reach) -> bool
+    ensures { result ≡ is_unbilled facts.now subscription.now sub day }
+{
+    facts
+        .blocks
+        .blocked(chain_of(subscription, sub), Flag::Billing, day)
+}
+
+/// The cell by what governs a day: none where the phase has no billing period, or no recurring price.
+fn cell_by(
+    facts: &Facts,
+    subscription: &Subscription,
+    day: Reach,
+    governing: &Governing,
+) -> Option<Cell>
+    requires named { first_day ≤ governing.now.start }
+    requires begun { governing.now.start ≤ day }
+    requires told { day ≤ last_billed }
+    ensures value { result ≡ cell_by facts.now subscription.now day governing.now }
+    ensures has_day { IfSome result (λ cell. (cell.start ≤ day) × (day < cell.end)) }
+    ensures longest { IfSome result (λ cell. cell.end ≤ cell.start + 731) }
+{
+    if matches!(governing.phase.period, Period::NoBillingPeriod) {
+        return None;
+    }
+    let price = governing.phase.recurring_price(facts.currency)?;
+    let bcd = cycle_day(facts, subscription, governing);
+    let (start, end) = period_of(governing.start, governing.phase.period, bcd, day);
+    Some(Cell {
+        plan: governing.entry.plan,
+        phase: governing.place,
+        start,
+        end,
+        price,
+    })
+}
