@@ -11,35 +11,10 @@
 # The program and the libraries below it are built in a new folder, which takes 2 GB while it is there.
 set -eu
 cd "$(dirname "$0")/.."
-export LC_ALL=C
+. bench/repository.sh
 
+program=catalog_times
 libraries='kb_base kb_days kb_money kb_catalog'
-work=$(mktemp -d)
-trap 'rm -rf "$work"' EXIT
-
-# A repository of the libraries and the program.
-make_repository() {
-    for library in $libraries; do
-        mkdir -p "$work/crates/$library"
-        for part in src specs proofs; do
-            [ ! -d "crates/$library/$part" ] || cp -r "crates/$library/$part" "$work/crates/$library"
-        done
-        grep "^$library:" crates.txt >>"$work/crates.txt"
-    done
-    mkdir -p "$work/crates/catalog_times/src"
-    echo "catalog_times: $libraries" >>"$work/crates.txt"
-    write_program >"$work/crates/catalog_times/src/main.rt"
-}
-
-# Proves, builds and runs the program.
-take_times() {
-    echo "Proving and building the libraries and the program. This takes some minutes." >&2
-    if ! (cd "$work/crates/catalog_times" && rt run) >"$work/times" 2>"$work/build"; then
-        tail -n 20 "$work/build" >&2
-        echo "bench/catalog.sh: there are no times" >&2
-        exit 1
-    fi
-}
 
 write_program() {
     cat <<'END'
@@ -391,13 +366,6 @@ END
 
 make_repository
 take_times
-awk -F , '
-    !($1 in best) { order[++count] = $1; best[$1] = $3 / $2 }
-    $3 / $2 < best[$1] { best[$1] = $3 / $2 }
-    END {
-        for (place = 1; place <= count; place++) {
-            what = order[place]
-            if (what ~ /^check/) printf "%-20s%9.2f ms\n", what, best[what] / 1e6
-            else printf "%-20s%9.2f us\n", what, best[what] / 1e3
-        }
-    }' "$work/times"
+best_times | awk -F , '
+    $1 ~ /^check/ { printf "%-20s%9.2f ms\n", $1, $2 / 1e6; next }
+    { printf "%-20s%9.2f us\n", $1, $2 / 1e3 }'

@@ -10,41 +10,15 @@
 # The program and the libraries below it are built in a new folder, which takes 3 GB while it is there.
 set -eu
 cd "$(dirname "$0")/.."
-export LC_ALL=C
+. bench/repository.sh
 
-libraries='kb_base kb_days kb_money kb_catalog kb_overdue kb_catalog_text'
-work=$(mktemp -d)
-trap 'rm -rf "$work"' EXIT
-program=$work/crates/text_times/out/text_times
-
-# A repository of the libraries and the program.
-make_repository() {
-    for library in $libraries; do
-        mkdir -p "$work/crates/$library"
-        for part in src specs proofs; do
-            [ ! -d "crates/$library/$part" ] || cp -r "crates/$library/$part" "$work/crates/$library"
-        done
-        grep "^$library:" crates.txt >>"$work/crates.txt"
-    done
-    mkdir -p "$work/crates/text_times/src"
-    echo "text_times: $libraries toml" >>"$work/crates.txt"
-    write_program >"$work/crates/text_times/src/main.rt"
-}
-
-# Proves, builds and runs the program.
-take_times() {
-    echo "Proving and building the libraries and the program. This takes some minutes." >&2
-    if ! (cd "$work/crates/text_times" && rt run) >"$work/times" 2>"$work/build"; then
-        tail -n 20 "$work/build" >&2
-        echo "bench/catalog_text.sh: there are no times" >&2
-        exit 1
-    fi
-}
+program=text_times
+libraries='kb_base kb_days kb_money kb_catalog kb_overdue kb_catalog_text toml'
 
 # The most memory that a run held.
 peak_memory() {
     if [ -x /usr/bin/time ] && /usr/bin/time -v true >/dev/null 2>&1; then
-        /usr/bin/time -v "$program" 2>"$work/time" >/dev/null
+        /usr/bin/time -v "$work/crates/$program/out/$program" 2>"$work/time" >/dev/null
         awk '/Maximum resident set size/ { print $NF, "KB" }' "$work/time"
         return
     fi
@@ -53,8 +27,8 @@ peak_memory() {
 
 write_program() {
     cat <<'END'
-//! Times the reading of a large catalog text. A line that is printed has a word and a number: the bytes of
-//! the text, or the nanoseconds that what is timed took.
+//! Times the reading of a large catalog text. A line that is printed has what is timed, how many calls were
+//! made, and the nanoseconds that they took. The first line has the bytes of the text in their place.
 #![tactic(auto)]
 
 use std::alloc::Global;
@@ -95,7 +69,7 @@ billing_alignment=[{alignment='ACCOUNT'}]
 
 fn main(rt: HostRuntime) -> io::Result<()> {
     let bytes = large(rt.alloc())?.len();
-    println!(rt; "bytes,{bytes}")?;
+    println!(rt; "bytes,1,{bytes}")?;
     for _ in 0..RUNS {
         time_read(&rt)?;
         time_toml(&rt)?;
@@ -112,7 +86,7 @@ fn time_read(rt: &HostRuntime) -> io::Result<()> {
         eprintln!(rt; "the text has the fault {}: {fault:?}", fault.number())?;
         return Err(io::ErrorKind::InvalidData.into());
     }
-    println!(rt; "read,{nanos}")
+    println!(rt; "read,1,{nanos}")
 }
 
 fn time_toml(rt: &HostRuntime) -> io::Result<()> {
@@ -123,7 +97,7 @@ fn time_toml(rt: &HostRuntime) -> io::Result<()> {
     if table.is_err() {
         return Err(io::ErrorKind::InvalidData.into());
     }
-    println!(rt; "toml,{nanos}")
+    println!(rt; "toml,1,{nanos}")
 }
 
 /// A plan for each of the products and billing periods, which the list DEFAULT names.
@@ -178,11 +152,8 @@ END
 
 make_repository
 take_times
-awk -F , '
-    $1 == "bytes" { print "bytes         " $2; next }
-    !($1 in best) || $2 < best[$1] { best[$1] = $2 }
-    END {
-        printf "read          %.2f ms\n", best["read"] / 1e6
-        printf "toml alone    %.2f ms\n", best["toml"] / 1e6
-    }' "$work/times"
+best_times | awk -F , '
+    $1 == "bytes" { printf "bytes         %d\n", $2 }
+    $1 == "read" { printf "read          %.2f ms\n", $2 / 1e6 }
+    $1 == "toml" { printf "toml alone    %.2f ms\n", $2 / 1e6 }'
 echo "peak memory   $(peak_memory)"
