@@ -1,6 +1,6 @@
 -- Laws of due cells.
 use Rattle.std.proofs.Common.{◌≡◌, ℕ, ◌+◌, ◌<◌, ◌≤◌, Bool, true, false, ◌&&◌, nat_le, if◌then◌else◌}
-use Rattle.std.proofs.Common.{Option, Some, None, refl, sym, ap, ◌∙◌, arith}
+use Rattle.std.proofs.Common.{Option, Some, None, refl, ap, arith}
 use Rattle.std.proofs.lemmas.Bool.{leb-true, le-leb}
 use Rattle.std.proofs.lemmas.Bool.Decides.{nat_tests}
 use Rattle.kb_days.proofs.Months.{month_of-began, month_of-not_over}
@@ -78,20 +78,6 @@ first_due-length start cancel billed day cell e =
     let ends = ap (λ (c : FirstCell). c.end) cell_is in
     omega (arith, period_end-high day)
 
--- a due cell costs the plan's price
-pub first_due-price : (start : ℕ) (cancel : Option ℕ) (billed day : ℕ) (cell : FirstCell)
-    → first_due start cancel billed day ≡ Some cell → cell.price ≡ 1000
-first_due-price start cancel billed day cell e =
-    ap (λ (c : FirstCell). c.price) (first_due-cell start cancel billed day cell e)
-
--- a due cell has begun by the billed date
-pub first_due-billed : (start : ℕ) (cancel : Option ℕ) (billed day : ℕ) (cell : FirstCell)
-    → first_due start cancel billed day ≡ Some cell → cell.start ≤ billed
-first_due-billed start cancel billed day cell e =
-    let is_due = due start cancel billed day cell e in
-    let starts = ap (λ (c : FirstCell). c.start) is_due.cell_is in
-    omega (arith, is_due)
-
 -- the subscription has started by the billed date
 pub first_due-started : (start : ℕ) (cancel : Option ℕ) (billed day : ℕ) (cell : FirstCell)
     → first_due start cancel billed day ≡ Some cell → start ≤ billed
@@ -118,15 +104,6 @@ pub first_due-cancel : (start cancel billed day : ℕ) (cell : FirstCell)
 first_due-cancel start cancel billed day cell e =
     is_live-cancel start cancel day (due start (Some cancel) billed day cell e).live
 
--- a day that is due stays so at later billed dates, with the same cell
-pub first_due-later : (start : ℕ) (cancel : Option ℕ) (billed later day : ℕ) (cell : FirstCell) → billed ≤ later
-    → first_due start cancel billed day ≡ Some cell → first_due start cancel later day ≡ Some cell
-first_due-later start cancel billed later day cell h e =
-    let is_due = due start cancel billed day cell e in
-    let started : start ≤ later = omega (arith, is_due) in
-    let begun : period_start day ≤ later = omega (arith, is_due) in
-    first_due-some start cancel later day is_due.live started begun is_due.in_reach ∙ ap (λ c. Some c) (sym is_due.cell_is)
-
 -- what is no cell is none
 none-unless : (found : Option FirstCell) → ((cell : FirstCell) → found ≡ Some cell → ⊥) → found ≡ None
 none-unless None h = refl
@@ -146,17 +123,3 @@ first_due-after start cancel billed day h =
     none-unless (first_due start cancel billed day) (λ cell e.
     let begun = (due start cancel billed day cell e).period_started in
     omega (arith, period_start-after billed day h, month_of-not_over billed))
-
--- nothing is due once cancelled
-pub first_due-cancelled : (start cancel billed day : ℕ)
-    → cancel ≤ day → first_due start (Some cancel) billed day ≡ None
-first_due-cancelled start cancel billed day h =
-    none-unless (first_due start (Some cancel) billed day) (λ cell e.
-    omega (arith, first_due-cancel start cancel billed day cell e))
-
--- nothing is due while the billed date is before the start
-pub first_due-unbilled : (start : ℕ) (cancel : Option ℕ) (billed day : ℕ)
-    → billed < start → first_due start cancel billed day ≡ None
-first_due-unbilled start cancel billed day h =
-    none-unless (first_due start cancel billed day) (λ cell e.
-    omega (arith, first_due-started start cancel billed day cell e))

@@ -1,5 +1,5 @@
 -- Months are periods: neighbouring boundaries with the day between them.
-use Rattle.std.proofs.Common.{◌≡◌, ℕ, ◌+◌, ◌<◌, ◌≤◌, sym, ap, ◌∙◌, arith}
+use Rattle.std.proofs.Common.{ℕ, ◌+◌, ◌<◌, ◌≤◌, sym, ◌∙◌, arith}
 use Rattle.kb_days.specs.Calendar.{month_start, month_of}
 use Rattle.kb_days.proofs.Months.{mark-first, month_length-high, month_start-suc, month_start-rises, month_start-order}
 use Rattle.kb_days.proofs.Marks.{month_of-first_day, month_of-last_billed}
@@ -33,32 +33,9 @@ month-IsPeriod day = record {
       omega (arith, first, month_start-next day is_boundary.0 (omega (arith, first)));
 }
 
--- a day has one period
-pub IsPeriod-only : (day start end first last : ℕ) → IsPeriod start end day → IsPeriod first last day
-    → (start ≡ first) × (end ≡ last)
-IsPeriod-only day start end first last one other =
-    let starts : start ≡ first = omega (arith, one.last_before first other.starts other.began, other.last_before start one.starts one.began) in
-    let ends : end ≡ last = omega (arith, one.first_after last other.ends other.not_over, other.first_after end one.ends one.not_over) in
-    (starts, ends)
-
 -- a period has at most 31 days
 pub period_end-high : (day : ℕ) → period_end day ≤ period_start day + 31
 period_end-high day = omega (arith, month_start-suc (month_of day), month_length-high (month_of day))
-
--- two days of one period have the same start of it
-pub period_start-within : (day other : ℕ) → period_start day ≤ other → other < period_end day
-    → period_start other ≡ period_start day
-period_start-within day other began over = ap month_start (month_of-only other (month_of day) began over)
-
--- and the same end
-pub period_end-within : (day other : ℕ) → period_start day ≤ other → other < period_end day
-    → period_end other ≡ period_end day
-period_end-within day other began over =
-    ap (λ month. month_start (month + 1)) (month_of-only other (month_of day) began over)
-
--- a later day lies in no earlier period
-pub period_start-rises : (day later : ℕ) → day ≤ later → period_start day ≤ period_start later
-period_start-rises day later h = month_start-rises (month_of day) (month_of later) (month_of-rises day later h)
 
 -- a day on or after the end of another's period lies in a period that starts there or later
 pub period_start-after : (day later : ℕ) → period_end day ≤ later → period_end day ≤ period_start later

@@ -1,6 +1,6 @@
 -- Two subscriptions of one bundle in March 2024, of which the second is an add-on.
 use Rattle.std.specs.Prelude.{ℕ, ◌≡◌, true, false, [], ◌∷◌, List, codes, Some, None, refl}
-use Rattle.kb_days.specs.Calendar.{month_of, month_after, month_start, month_length}
+use Rattle.kb_days.specs.Calendar.{month_of, month_after, month_start, month_length, day_of_month}
 use Rattle.kb_days.specs.declared.span.Span.TheVariants.{Days, Unlimited}
 use Rattle.kb_days.specs.declared.period.Period.TheVariants.{Monthly, NoBillingPeriod}
 use Rattle.kb_catalog.specs.declared.version.Version.{Version}
@@ -20,6 +20,7 @@ use Rattle.kb_due.specs.declared.cell.Cell.{Cell}
 use Rattle.kb_due.specs.declared.entitlement.Entitlement.TheVariants.{Pending, Active, Blocked, Cancelled}
 use Rattle.kb_due.specs.Facts.{FactsValue}
 use Rattle.kb_due.specs.Life.{is_kept, is_live}
+use Rattle.kb_due.specs.CycleDays.{own_cycle_day}
 use Rattle.kb_due.specs.Cells.{cell_on}
 use Rattle.kb_due.specs.DueDays.{due_on, charged_until, fee_on}
 use Rattle.kb_due.specs.Entitlements.{state_of, state_on}
@@ -63,7 +64,7 @@ lead = record { name = codes "s1"; bundle = 0; addon = false; entries = entry 0 
 abbrev addon : Subscription
 addon = record { name = codes "s2"; bundle = 0; addon = true; entries = entry 2 19783 19783 ∷ entry 3 19803 19783 ∷ []; cancel = None }
 
-abbrev facts : FactsValue
+abbrev pub facts : FactsValue
 facts = record {
   catalog = version ∷ [];
   timeline = record { bundles = codes "b1" ∷ []; subscriptions = lead ∷ addon ∷ [] };
@@ -92,8 +93,13 @@ no_cell_in_the_trial : cell_on facts lead 0 19785 ≡ None
 unfolding cell_on is_on phase_on phase_starts
 no_cell_in_the_trial = refl
 
+-- the lead's own cycle day: the first phase with a recurring price starts on 31 March, whatever it changed to before
+own_day_of_the_lead : own_cycle_day facts lead ≡ 31
+unfolding phase_starts day_of_month month_of month_after month_start month_length
+own_day_of_the_lead = refl
+
 -- from 11 March on each day is charged by its month
-abbrev march : Cell
+abbrev pub march : Cell
 march = record { plan = record { version = 0; list = 0; plan = 1 }; phase = 0; start = 19783; end = 19814; price = 1000 }
 
 cell_of_12_march : cell_on facts lead 0 19794 ≡ Some march

@@ -1,6 +1,8 @@
 //! The cell of a day.
 ghost use Rattle.std.specs.Prelude.{◌≡◌, ◌<◌, ◌≤◌, ◌+◌, IfSome};
 ghost use Rattle.kb_days.specs.Calendar.{first_day};
+ghost use Rattle.kb_align.specs.Boundaries.{IsPeriodOf};
+ghost use Rattle.kb_due.specs.CycleDays.{cycle_day};
 ghost use Rattle.kb_due.specs.Cells.{is_unbilled, cell_by, cell_on};
 ghost use Rattle.kb_due.specs.DueDays.{last_billed};
 
@@ -16,12 +18,7 @@ use kb_timeline::Subscription;
 
 /// The cell of a day of a subscription: none where it isn't live, or its billing is blocked.
 #[tactic(auto, unfolding(crate::specs::Cells::cell_on))]
-pub(crate) fn cell_on(
-    facts: &Facts,
-    subscription: &Subscription,
-    sub: u32,
-    day: Reach,
-) -> Option<Cell>
+pub fn cell_on(facts: &Facts, subscription: &Subscription, sub: u32, day: Reach) -> Option<Cell>
     requires told { day ≤ last_billed }
     ensures value { result ≡ cell_on facts.now subscription.now sub day }
     ensures has_day { IfSome result (λ cell. (cell.start ≤ day) × (day < cell.end)) }
@@ -44,7 +41,7 @@ fn is_unbilled(facts: &Facts, subscription: &Subscription, sub: u32, day: Reach)
 }
 
 /// The cell by what governs a day: none where the phase has no billing period, or no recurring price.
-fn cell_by(
+pub fn cell_by(
     facts: &Facts,
     subscription: &Subscription,
     day: Reach,
@@ -54,6 +51,8 @@ fn cell_by(
     requires begun { governing.now.start ≤ day }
     requires told { day ≤ last_billed }
     ensures value { result ≡ cell_by facts.now subscription.now day governing.now }
+    ensures period { IfSome result (λ cell. IsPeriodOf governing.now.start governing.now.phase.period
+        (cycle_day facts.now subscription.now governing.now) day cell.start cell.end) }
     ensures has_day { IfSome result (λ cell. (cell.start ≤ day) × (day < cell.end)) }
     ensures longest { IfSome result (λ cell. cell.end ≤ cell.start + 731) }
 {

@@ -6,7 +6,7 @@ use kb_blocking::Chain;
 use kb_timeline::Subscription;
 
 /// The bundle and the place of a subscription, whose blocking states are looked at beside the account's.
-pub(crate) fn chain_of(subscription: &Subscription, sub: u32) -> Chain
+pub fn chain_of(subscription: &Subscription, sub: u32) -> Chain
     ensures { result ≡ chain_of subscription.now sub }
 {
     Chain {

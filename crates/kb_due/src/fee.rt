@@ -36,7 +36,7 @@ fn fee_of(facts: &Facts, subscription: &Subscription, billed: Day, day: Reach) -
 }
 
 /// What is charged once on a day by what governs it: the fixed price of a phase that starts on the day.
-fn fee_by(facts: &Facts, day: Reach, governing: &Governing) -> Option<Cell>
+pub fn fee_by(facts: &Facts, day: Reach, governing: &Governing) -> Option<Cell>
     requires told { day ≤ last_billed }
     ensures value { result ≡ fee_by facts.now day governing.now }
     ensures one_day { IfSome result (λ cell. (cell.start ≡ day) × (cell.end ≡ day + 1)) }

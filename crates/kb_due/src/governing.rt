@@ -13,10 +13,10 @@ use std::marker::Model;
 
 /// A plan that an entry refers to, with its version and the list by which it was chosen.
 #[derive(Drop)]
-pub(crate) struct Choice<'a> {
-    pub(crate) version: &'a Valid,
-    pub(crate) list: &'a PriceList,
-    pub(crate) plan: &'a Plan,
+pub struct Choice<'a> {
+    pub version: &'a Valid,
+    pub list: &'a PriceList,
+    pub plan: &'a Plan,
 }
 
 impl<'a> Model for Choice<'a> {
@@ -32,12 +32,12 @@ impl<'a> Model for Choice<'a> {
 
 /// An entry, what it chose, and the phase that governs a day, with its place and start.
 #[derive(Drop)]
-pub(crate) struct Governing<'a> {
-    pub(crate) entry: &'a Entry,
-    pub(crate) choice: Choice<'a>,
-    pub(crate) place: u32,
-    pub(crate) start: Reach,
-    pub(crate) phase: &'a Phase,
+pub struct Governing<'a> {
+    pub entry: &'a Entry,
+    pub choice: Choice<'a>,
+    pub place: u32,
+    pub start: Reach,
+    pub phase: &'a Phase,
 }
 
 impl<'a> Model for Governing<'a> {
@@ -55,7 +55,7 @@ impl<'a> Model for Governing<'a> {
 }
 
 /// The plan that an entry refers to, with its version and list, where they are there.
-pub(crate) fn choice_of(catalog: &Catalog, place: PlanRef) -> Option<Choice<'_>>
+pub fn choice_of(catalog: &Catalog, place: PlanRef) -> Option<Choice<'_>>
     ensures { result ≡ choice_of catalog.now place }
 {
     if catalog.len() <= place.version {
@@ -78,7 +78,7 @@ fn choice_in(version: &Valid, place: PlanRef) -> Option<Choice<'_>>
 }
 
 /// What governs a day of a subscription with these entries: none before the start.
-pub(crate) fn governing_on<'a>(
+pub fn governing_on<'a>(
     catalog: &'a Catalog,
     entries: &'a Entries,
     day: Reach,

@@ -17,14 +17,15 @@ mod first;
 mod governing;
 mod life;
 #[cfg(test)]
-mod samples;
-#[cfg(test)]
 mod tests;
 
 pub use cell::{Cell, Piece};
+pub use cell_day::cell_by;
+pub use chain::chain_of;
 pub use due::due_on;
 pub use entitlement::{Entitlement, state_on};
 pub use facts::Facts;
-pub use fee::fee_on;
+pub use fee::{fee_by, fee_on};
 pub use first::{FirstCell, first_due};
-pub use life::live;
+pub use governing::{Choice, Governing, choice_of, governing_on};
+pub use life::{is_kept_on, is_running, lead_of, live};

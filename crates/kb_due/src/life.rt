@@ -20,7 +20,7 @@ pub fn live(facts: &Facts, sub: u32, day: Reach) -> bool
 }
 
 /// Whether a subscription is live on a day.
-pub(crate) fn is_live(facts: &Facts, subscription: &Subscription, day: Reach) -> bool
+pub fn is_live(facts: &Facts, subscription: &Subscription, day: Reach) -> bool
     ensures { result ≡ is_live_of facts.now subscription.now day }
 {
     is_running(subscription, day)
@@ -34,14 +34,14 @@ pub(crate) fn is_live(facts: &Facts, subscription: &Subscription, day: Reach) ->
 }
 
 /// Whether a subscription runs on a day: it has started and isn't cancelled by then.
-fn is_running(subscription: &Subscription, day: Reach) -> bool
+pub fn is_running(subscription: &Subscription, day: Reach) -> bool
     ensures { result ≡ is_running subscription.now day }
 {
     has_started(&subscription.entries, day) && !is_cancelled(subscription.cancel, day)
 }
 
 /// Whether there is a start on or before a day.
-pub(crate) fn has_started(entries: &Entries, day: Reach) -> bool
+pub fn has_started(entries: &Entries, day: Reach) -> bool
     ensures { result ≡ has_started entries.now day }
 {
     match entries.as_slice().first() {
@@ -61,10 +61,7 @@ fn is_cancelled(cancel: Option<Day>, day: Reach) -> bool
 }
 
 /// The lead of a subscription's bundle.
-pub(crate) fn lead_of<'a>(
-    facts: &Facts<'a>,
-    subscription: &Subscription,
-) -> Option<&'a Subscription>
+pub fn lead_of<'a>(facts: &Facts<'a>, subscription: &Subscription) -> Option<&'a Subscription>
     ensures { option_copied result ≡ lead_subscription facts.now subscription.now }
 {
     let place = facts.timeline.lead(subscription.bundle)?;
@@ -113,7 +110,7 @@ fn is_kept_from(
 }
 
 /// Whether an add-on's lead runs and offers it on a day.
-fn is_kept_on(catalog: &Catalog, lead: &Subscription, addon: &Subscription, day: Reach) -> bool
+pub fn is_kept_on(catalog: &Catalog, lead: &Subscription, addon: &Subscription, day: Reach) -> bool
     ensures { result ≡ is_kept_on catalog.now lead.now addon.now day }
 {
     is_running(lead, day) && is_offered(catalog, lead, addon, day)

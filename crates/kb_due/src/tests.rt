@@ -1,15 +1,33 @@
 //! Worked accounts, day by day.
 
-use crate::samples::{
-    BASIC, Block, EXTRA, HELPER, OWN, PRO, STARTER, SUPPORT, Step, THIRTY, blocks, catalog, facts,
-    timeline,
-};
 use crate::{Cell, Entitlement, Facts, due_on, fee_on, live, state_on};
-use kb_blocking::Scope;
-use kb_days::{Day, Reach};
+use kb_blocking::{Blocks, Scope};
+use kb_catalog::Catalog;
+use kb_days::{Bcd, Day, Reach};
+use kb_samples::{
+    BASIC, Block, EXTRA, HELPER, OWN, PRO, STARTER, SUPPORT, Step, THIRTY, blocks, catalog,
+    currency, timeline,
+};
+use kb_timeline::Timeline;
 use std::alloc::Global;
 use std::process::Abort;
 use std::test::Fail;
+
+/// What billing looks at, of an account with a cycle day.
+fn facts<'a>(
+    catalog: &'a Catalog,
+    timeline: &'a Timeline,
+    blocks: &'a Blocks,
+    bcd: u32,
+) -> Result<Facts<'a>, Fail> {
+    Ok(Facts {
+        catalog,
+        timeline,
+        blocks,
+        currency: currency()?,
+        bcd: Bcd::new(bcd).ok_or("a cycle day")?,
+    })
+}
 
 /// A cell as rows tell it: plan, phase, start, end and price.
 type Told = (u32, u32, u32, u32, u64);
