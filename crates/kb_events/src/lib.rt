@@ -1,0 +1,22 @@
+//! Billing pieces: the due cells of all days at once, by intervals.
+//!
+//! The rule kept here: nothing that a day is charged by changes but on an event, and on the boundaries of billing periods;
+//! so the days between are charged alike, and are never visited one by one. Layers above take the pieces of a subscription.
+#![tactic(auto)]
+
+mod charged;
+mod charging_once;
+mod course;
+mod cutting;
+mod ending;
+mod living;
+mod periods;
+mod pushing;
+mod standing;
+#[cfg(test)]
+mod tests;
+mod walking;
+
+pub use charged::charged_through;
+pub use charging_once::fees;
+pub use walking::pieces;
