@@ -146,7 +146,7 @@ fn cancel_policy(alloc: Global) -> Result<Seq<CancelCase>, Fail> {
     Ok(Seq::from_vec(vec![in alloc; of_pro, other]?))
 }
 
-fn create_alignment(alloc: Global) -> Result<Seq<CreateCase>, Fail> {
+pub(crate) fn create_alignment(alloc: Global) -> Result<Seq<CreateCase>, Fail> {
     let add_on = CreateCase {
         plan: of_category(Category::AddOn),
         alignment: CreateAlign::StartOfBundle,

@@ -1,35 +1,32 @@
 //! The shop is accepted, and each rule is told by its number and its first offender.
 ghost use Rattle.kb_catalog.specs.VersionRules.{HasCounts};
 
+use crate::samples::valid;
 use crate::shop::{
     anything, currencies, evergreen, list, of_list, of_product, plan, plan_of, product, shop,
     simple_plan, trial,
 };
 use crate::{
     BillingAlign, BillingCase, CancelCase, Category, Phase, PhaseType, Plan, PlanCondition, Policy,
-    PriceList, Product, Rule, Version,
+    PriceList, Product, Rule, Rules, Valid, Version,
 };
 use kb_base::Seq;
 use kb_days::{Count, Period, Span};
+use kb_money::Currency;
 use std::alloc::Global;
+use std::process::Abort;
 use std::test::Fail;
-
-/// The number of the first broken rule, and its first offender.
-fn told(version: Version) -> Option<(u32, u32)>
-    requires { HasCounts version }
-{
-    let fault = version.check().err()?;
-    Some((fault.rule.number(), fault.index))
-}
 
 #[test]
 fn the_shop_is_accepted(rt: HostRuntime) -> Result<(), Fail> {
-    let version = shop(rt.alloc())?;
-    assert!(rt; version.has_counts());
-    let valid = version.check().ok().ok_or("a valid version")?;
-    assert_eq!(rt; valid.version().products.len(), 6);
-    assert_eq!(rt; valid.version().plans.len(), 7);
+    let version = valid(shop(rt.alloc())?)?;
+    has_all_of_the_shop(&rt, &version);
     Ok(())
+}
+
+fn has_all_of_the_shop(rt: &impl Abort, version: &Valid) {
+    assert_eq!(rt; version.version().products.len(), 6);
+    assert_eq!(rt; version.version().plans.len(), 7);
 }
 
 #[test]
@@ -42,29 +39,81 @@ fn the_rules_are_numbered(rt: HostRuntime) {
     assert_eq!(rt; number, 12);
 }
 
-#[test]
-fn rules_of_currencies(rt: HostRuntime) -> Result<(), Fail> {
-    let codes = ["USD", "EUR", "GBP", "EUR", "USD"];
-    // the first so many of these, and the answer
-    let cases = [
-        (0, Some((1, 0))),
-        (1, None),
-        (3, None),
-        (4, Some((1, 3))),
-        (5, Some((1, 3))),
-    ];
-    for (count, answer) in cases {
-        let mut version = shop(rt.alloc())?;
-        version.currencies = currencies(rt.alloc(), codes.get(..count).ok_or("so many")?)?;
+/// What of the shop a test makes otherwise.
+#[derive(Clone, Copy)]
+enum Part {
+    Currencies,
+    Products,
+    Plans,
+    Lists,
+    Cases,
+}
+
+/// Each row has a way in which a part of the shop is made otherwise, and what is told of it.
+fn rules_tell(
+    rt: &impl Abort,
+    alloc: Global,
+    part: Part,
+    rows: &[(&str, Option<(u32, u32)>)],
+) -> Result<(), Fail> {
+    for (way, answer) in rows {
+        let version = changed_shop(alloc, part, way)?;
         assert!(rt; version.has_counts());
-        assert_eq!(rt; told(version), answer, "{count}");
+        assert_eq!(rt; told(version), *answer, "{way}");
+    }
+    Ok(())
+}
+
+/// The number of the first broken rule, and its first offender.
+fn told(version: Version) -> Option<(u32, u32)>
+    requires { HasCounts version }
+{
+    let fault = version.check().err()?;
+    Some((fault.rule.number(), fault.index))
+}
+
+fn changed_shop(alloc: Global, part: Part, way: &str) -> Result<Version, Fail> {
+    let mut version = shop(alloc)?;
+    change(alloc, &mut version, part, way)?;
+    Ok(version)
+}
+
+fn change(alloc: Global, version: &mut Version, part: Part, way: &str) -> Result<(), Fail> {
+    match part {
+        Part::Currencies => version.currencies = currencies_with(alloc, way)?,
+        Part::Products => version.products.push(product_with(alloc, way)?)?,
+        Part::Plans => add_plans(alloc, &mut version.plans, way)?,
+        Part::Lists => change_lists(alloc, &mut version.lists, way)?,
+        Part::Cases => change_cases(alloc, &mut version.rules, way)?,
     }
     Ok(())
 }
 
 #[test]
+fn rules_of_currencies(rt: HostRuntime) -> Result<(), Fail> {
+    const ROWS: [(&str, Option<(u32, u32)>); 5] = [
+        ("none", Some((1, 0))),
+        ("one", None),
+        ("three", None),
+        ("one of three again", Some((1, 3))),
+        ("two of three again", Some((1, 3))),
+    ];
+    rules_tell(&rt, rt.alloc(), Part::Currencies, &ROWS)
+}
+
+fn currencies_with(alloc: Global, way: &str) -> Result<Seq<Currency>, Fail> {
+    match way {
+        "none" => currencies(alloc, &[]),
+        "one" => currencies(alloc, &["USD"]),
+        "three" => currencies(alloc, &["USD", "EUR", "GBP"]),
+        "one of three again" => currencies(alloc, &["USD", "EUR", "GBP", "EUR"]),
+        _ => currencies(alloc, &["USD", "EUR", "GBP", "EUR", "USD"]),
+    }
+}
+
+#[test]
 fn rules_of_products(rt: HostRuntime) -> Result<(), Fail> {
-    let cases = [
+    const ROWS: [(&str, Option<(u32, u32)>); 7] = [
         ("a name again", Some((2, 6))),
         ("an add-on of a standalone product", Some((3, 6))),
         ("an add-on of an add-on", Some((3, 6))),
@@ -73,13 +122,7 @@ fn rules_of_products(rt: HostRuntime) -> Result<(), Fail> {
         ("an add-on in both lists", Some((4, 6))),
         ("an add-on twice in one list", None),
     ];
-    for (way, answer) in cases {
-        let mut version = shop(rt.alloc())?;
-        version.products.push(product_with(rt.alloc(), way)?)?;
-        assert!(rt; version.has_counts());
-        assert_eq!(rt; told(version), answer, "{way}");
-    }
-    Ok(())
+    rules_tell(&rt, rt.alloc(), Part::Products, &ROWS)
 }
 
 fn product_with(alloc: Global, way: &str) -> Result<Product, Fail> {
@@ -100,7 +143,7 @@ fn product_with(alloc: Global, way: &str) -> Result<Product, Fail> {
 
 #[test]
 fn rules_of_plans(rt: HostRuntime) -> Result<(), Fail> {
-    let cases = [
+    const ROWS: [(&str, Option<(u32, u32)>); 12] = [
         ("a name again", Some((5, 7))),
         ("a product that isn't there", Some((6, 7))),
         ("no phase", Some((7, 7))),
@@ -114,11 +157,22 @@ fn rules_of_plans(rt: HostRuntime) -> Result<(), Fail> {
         ("a currency twice", Some((10, 7))),
         ("nothing wrong", None),
     ];
-    for (way, answer) in cases {
-        let mut version = shop(rt.alloc())?;
-        version.plans.push(plan_with(rt.alloc(), way)?)?;
-        assert!(rt; version.has_counts());
-        assert_eq!(rt; told(version), answer, "{way}");
+    rules_tell(&rt, rt.alloc(), Part::Plans, &ROWS)
+}
+
+#[test]
+fn the_earlier_rule_and_place_are_told(rt: HostRuntime) -> Result<(), Fail> {
+    const ROWS: [(&str, Option<(u32, u32)>); 1] = [("three wrong plans", Some((6, 8)))];
+    rules_tell(&rt, rt.alloc(), Part::Plans, &ROWS)
+}
+
+fn add_plans(alloc: Global, plans: &mut Seq<Plan>, way: &str) -> Result<(), Fail> {
+    if way == "three wrong plans" {
+        plans.push(plan_with(alloc, "another currency")?)?;
+        plans.push(simple_plan(alloc, "lost", "Lost", Period::Monthly, 1)?)?;
+        plans.push(simple_plan(alloc, "later", "Lost", Period::Annual, 1)?)?;
+    } else {
+        plans.push(plan_with(alloc, way)?)?;
     }
     Ok(())
 }
@@ -162,24 +216,21 @@ fn phase_with(alloc: Global, way: &str) -> Result<Phase, Fail> {
 
 #[test]
 fn rules_of_lists(rt: HostRuntime) -> Result<(), Fail> {
-    let cases = [
+    const ROWS: [(&str, Option<(u32, u32)>); 5] = [
         ("a name again", Some((11, 1))),
         ("a plan that isn't there", Some((11, 1))),
         ("plans that agree", Some((11, 1))),
         ("plans that differ", None),
+        ("no default list", Some((11, 1))),
     ];
-    for (way, answer) in cases {
-        let mut version = shop(rt.alloc())?;
-        version.lists.push(list_with(rt.alloc(), way)?)?;
-        assert!(rt; version.has_counts());
-        assert_eq!(rt; told(version), answer, "{way}");
+    rules_tell(&rt, rt.alloc(), Part::Lists, &ROWS)
+}
+
+fn change_lists(alloc: Global, lists: &mut Seq<PriceList>, way: &str) -> Result<(), Fail> {
+    if way == "no default list" {
+        *lists = Seq::new(alloc);
     }
-    let mut version = shop(rt.alloc())?;
-    let other = list(rt.alloc(), "OTHER", &[])?;
-    version.lists = Seq::from_vec(vec![in rt.alloc(); other]?);
-    assert!(rt; version.has_counts());
-    assert_eq!(rt; told(version), Some((11, 1)), "no default list");
-    Ok(())
+    Ok(lists.push(list_with(alloc, way)?)?)
 }
 
 fn list_with(alloc: Global, way: &str) -> Result<PriceList, Fail> {
@@ -187,55 +238,34 @@ fn list_with(alloc: Global, way: &str) -> Result<PriceList, Fail> {
         "a name again" => list(alloc, "DEFAULT", &[]),
         "a plan that isn't there" => list(alloc, "OTHER", &["thirty", "lost"]),
         "plans that agree" => list(alloc, "OTHER", &["thirty", "pro-monthly", "thirty"]),
-        _ => list(
+        "plans that differ" => list(
             alloc,
             "OTHER",
             &["basic-monthly", "basic-annual", "pro-monthly"],
         ),
+        _ => list(alloc, "OTHER", &[]),
     }
 }
 
 #[test]
 fn rules_of_cases(rt: HostRuntime) -> Result<(), Fail> {
-    let cases = [
+    const ROWS: [(&str, Option<(u32, u32)>); 4] = [
         ("no case", Some((12, 1))),
         ("a product at the end", Some((12, 2))),
         ("a list that isn't there", Some((12, 2))),
         ("a phase at the end", Some((12, 4))),
     ];
-    for (way, answer) in cases {
-        let version = version_with(rt.alloc(), way)?;
-        assert!(rt; version.has_counts());
-        assert_eq!(rt; told(version), answer, "{way}");
+    rules_tell(&rt, rt.alloc(), Part::Cases, &ROWS)
+}
+
+fn change_cases(alloc: Global, rules: &mut Rules, way: &str) -> Result<(), Fail> {
+    match way {
+        "no case" => rules.change_alignment = Seq::new(alloc),
+        "a product at the end" => rules.cancel_policy = ends_with_product(alloc)?,
+        "a list that isn't there" => rules.cancel_policy = names_lost_list(alloc)?,
+        _ => rules.billing_alignment = trial_case(alloc)?,
     }
     Ok(())
-}
-
-fn version_with(alloc: Global, way: &str) -> Result<Version, Fail> {
-    match way {
-        "no case" => without_alignment(alloc),
-        "a product at the end" => cancelled_by(alloc, ends_with_product(alloc)?),
-        "a list that isn't there" => cancelled_by(alloc, names_lost_list(alloc)?),
-        _ => billed_by_trial(alloc),
-    }
-}
-
-fn without_alignment(alloc: Global) -> Result<Version, Fail> {
-    let mut version = shop(alloc)?;
-    version.rules.change_alignment = Seq::new(alloc);
-    Ok(version)
-}
-
-fn cancelled_by(alloc: Global, cases: Seq<CancelCase>) -> Result<Version, Fail> {
-    let mut version = shop(alloc)?;
-    version.rules.cancel_policy = cases;
-    Ok(version)
-}
-
-fn billed_by_trial(alloc: Global) -> Result<Version, Fail> {
-    let mut version = shop(alloc)?;
-    version.rules.billing_alignment = trial_case(alloc)?;
-    Ok(version)
 }
 
 fn ends_with_product(alloc: Global) -> Result<Seq<CancelCase>, Fail> {
@@ -265,17 +295,4 @@ fn trial_case(alloc: Global) -> Result<Seq<BillingCase>, Fail> {
         alignment: BillingAlign::Bundle,
     };
     Ok(Seq::from_vec(vec![in alloc; case]?))
-}
-
-#[test]
-fn the_earlier_rule_and_place_are_told(rt: HostRuntime) -> Result<(), Fail> {
-    let mut version = shop(rt.alloc())?;
-    version
-        .plans
-        .push(plan_with(rt.alloc(), "another currency")?)?;
-    version.plans.push(simple_plan(rt.alloc(), "lost", "Lost", Period::Monthly, 1)?)?;
-    version.plans.push(simple_plan(rt.alloc(), "later", "Lost", Period::Annual, 1)?)?;
-    assert!(rt; version.has_counts());
-    assert_eq!(rt; told(version), Some((6, 8)));
-    Ok(())
 }

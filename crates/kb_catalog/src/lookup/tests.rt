@@ -3,34 +3,61 @@ mod one_plan;
 mod shop_rules;
 
 use crate::samples::valid;
-use crate::shop::{anything, list, name, of_category, of_list, of_product, shop, simple_plan};
+use crate::shop::{
+    anything, create_alignment, list, name, of_category, of_list, of_product, shop, simple_plan,
+};
 use crate::{
     Align, BillingAlign, BillingCase, CancelCase, Category, ChangeAlignmentCase, ChangePolicyCase,
-    CreateAlign, PhaseType, PlanCondition, Policy, Valid,
+    CreateAlign, PhaseType, Plan, PlanCondition, Policy, PriceList, Rules, Valid, Version,
 };
 use kb_base::Seq;
 use kb_days::Period;
 use std::alloc::Global;
+use std::process::Abort;
 use std::test::Fail;
 
 /// The shop, with a monthly plan more of the product Basic, and with two lists: by SALE another plan is
 /// sold for Basic and a month, and for a year.
 fn two_lists(alloc: Global) -> Result<Valid, Fail> {
     let mut version = shop(alloc)?;
-    version.plans.push(simple_plan(alloc, "basic-sale", "Basic", Period::Monthly, 900)?)?;
-    version.lists = Seq::from_vec(vec![in alloc;
-        list(alloc, "DEFAULT", &["basic-monthly", "pro-monthly"])?,
-        list(
-            alloc,
-            "SALE",
-            &["basic-sale", "basic-annual", "starter-monthly"]
-        )?,
-    ]?);
-    version.rules.change_policy = change_policy(alloc)?;
-    version.rules.change_alignment = change_alignment(alloc)?;
-    version.rules.cancel_policy = cancel_policy(alloc)?;
-    version.rules.billing_alignment = billing_alignment(alloc)?;
+    add_list(alloc, &mut version)?;
     valid(version)
+}
+
+fn add_list(alloc: Global, version: &mut Version) -> Result<(), Fail> {
+    version.plans.push(sale_plan(alloc)?)?;
+    version.lists = lists(alloc)?;
+    version.rules = rules(alloc)?;
+    Ok(())
+}
+
+fn sale_plan(alloc: Global) -> Result<Plan, Fail> {
+    simple_plan(alloc, "basic-sale", "Basic", Period::Monthly, 900)
+}
+
+fn lists(alloc: Global) -> Result<Seq<PriceList>, Fail> {
+    let mut lists = Seq::new(alloc);
+    lists.push(list(alloc, "DEFAULT", &["basic-monthly", "pro-monthly"])?)?;
+    lists.push(sale_list(alloc)?)?;
+    Ok(lists)
+}
+
+fn sale_list(alloc: Global) -> Result<PriceList, Fail> {
+    list(
+        alloc,
+        "SALE",
+        &["basic-sale", "basic-annual", "starter-monthly"],
+    )
+}
+
+fn rules(alloc: Global) -> Result<Rules, Fail> {
+    Ok(Rules {
+        change_policy: change_policy(alloc)?,
+        change_alignment: change_alignment(alloc)?,
+        cancel_policy: cancel_policy(alloc)?,
+        create_alignment: create_alignment(alloc)?,
+        billing_alignment: billing_alignment(alloc)?,
+    })
 }
 
 fn change_policy(alloc: Global) -> Result<Seq<ChangePolicyCase>, Fail> {
@@ -145,30 +172,48 @@ fn billing_alignment(alloc: Global) -> Result<Seq<BillingCase>, Fail> {
     ]?))
 }
 
+/// A product, a period and a list; and the places of the list and of the plan that are found.
+type Place = (&'static str, Period, &'static str, Option<(u32, u32)>);
+
+const PLACES: [Place; 12] = [
+    ("Basic", Period::Monthly, "DEFAULT", Some((0, 0))),
+    ("Pro", Period::Monthly, "DEFAULT", Some((0, 3))),
+    ("Basic", Period::Monthly, "SALE", Some((1, 7))),
+    ("Basic", Period::Annual, "SALE", Some((1, 1))),
+    // The period of the last phase counts, and not that of the trial.
+    ("Starter", Period::Monthly, "SALE", Some((1, 2))),
+    ("Starter", Period::NoBillingPeriod, "SALE", None),
+    // The other list alone sells it.
+    ("Basic", Period::Annual, "DEFAULT", None),
+    ("Pro", Period::Monthly, "SALE", None),
+    // No list sells it.
+    ("Big", Period::Monthly, "DEFAULT", None),
+    ("None", Period::Monthly, "DEFAULT", None),
+    ("Basic", Period::Weekly, "DEFAULT", None),
+    ("Basic", Period::Monthly, "OTHER", None),
+];
+
 #[test]
 fn plans_by_product_period_and_list(rt: HostRuntime) -> Result<(), Fail> {
     let version = two_lists(rt.alloc())?;
-    let cases = [
-        ("Basic", Period::Monthly, "DEFAULT", Some((0, 0))),
-        ("Pro", Period::Monthly, "DEFAULT", Some((0, 3))),
-        ("Basic", Period::Monthly, "SALE", Some((1, 7))),
-        ("Basic", Period::Annual, "SALE", Some((1, 1))),
-        // The period of the last phase counts, and not that of the trial.
-        ("Starter", Period::Monthly, "SALE", Some((1, 2))),
-        ("Starter", Period::NoBillingPeriod, "SALE", None),
-        // The other list alone sells it.
-        ("Basic", Period::Annual, "DEFAULT", None),
-        ("Pro", Period::Monthly, "SALE", None),
-        // No list sells it.
-        ("Big", Period::Monthly, "DEFAULT", None),
-        ("None", Period::Monthly, "DEFAULT", None),
-        ("Basic", Period::Weekly, "DEFAULT", None),
-        ("Basic", Period::Monthly, "OTHER", None),
-    ];
-    for (product, period, list, places) in cases {
-        let found = version.find_plan(name(product)?, period, name(list)?);
-        assert_eq!(rt; found, places, "{product} by {list}");
+    plans_are_found(&rt, &version)
+}
+
+fn plans_are_found(rt: &impl Abort, version: &Valid) -> Result<(), Fail> {
+    for row in &PLACES {
+        plan_is_found(rt, version, row)?;
     }
+    has_an_annual_plan(rt, version)
+}
+
+fn plan_is_found(rt: &impl Abort, version: &Valid, row: &Place) -> Result<(), Fail> {
+    let (product, period, list, places) = *row;
+    let found = version.find_plan(name(product)?, period, name(list)?);
+    assert_eq!(rt; found, places, "{product} by {list}");
+    Ok(())
+}
+
+fn has_an_annual_plan(rt: &impl Abort, version: &Valid) -> Result<(), Fail> {
     let annual = version.version().plans.as_slice().get(1).ok_or("a plan")?;
     assert_eq!(rt; annual.period(), Period::Annual);
     Ok(())

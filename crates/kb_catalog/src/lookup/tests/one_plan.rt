@@ -7,124 +7,126 @@ use kb_days::Period;
 use std::process::Abort;
 use std::test::Fail;
 
+/// A plan's product, category, list and phase; and what the rules of one plan give.
+type Row = (
+    &'static str,
+    Option<Category>,
+    &'static str,
+    Option<PhaseType>,
+    (Policy, CreateAlign, BillingAlign),
+);
+
+const ROWS: [Row; 8] = [
+    (
+        "Pro",
+        Some(Category::Base),
+        "DEFAULT",
+        None,
+        (
+            Policy::EndOfTerm,
+            CreateAlign::StartOfSubscription,
+            BillingAlign::Account,
+        ),
+    ),
+    (
+        "Pro",
+        Some(Category::Base),
+        "DEFAULT",
+        Some(PhaseType::Trial),
+        (
+            Policy::Immediate,
+            CreateAlign::StartOfSubscription,
+            BillingAlign::Account,
+        ),
+    ),
+    (
+        "Pro",
+        Some(Category::Base),
+        "SALE",
+        Some(PhaseType::Discount),
+        (
+            Policy::EndOfTerm,
+            CreateAlign::StartOfSubscription,
+            BillingAlign::Bundle,
+        ),
+    ),
+    (
+        "Basic",
+        Some(Category::Base),
+        "DEFAULT",
+        Some(PhaseType::Discount),
+        (
+            Policy::Immediate,
+            CreateAlign::StartOfSubscription,
+            BillingAlign::Account,
+        ),
+    ),
+    (
+        "Basic",
+        Some(Category::Base),
+        "SALE",
+        None,
+        (
+            Policy::Immediate,
+            CreateAlign::StartOfSubscription,
+            BillingAlign::Account,
+        ),
+    ),
+    (
+        "Support",
+        Some(Category::AddOn),
+        "DEFAULT",
+        None,
+        (
+            Policy::Illegal,
+            CreateAlign::StartOfBundle,
+            BillingAlign::Subscription,
+        ),
+    ),
+    (
+        "Support",
+        None,
+        "DEFAULT",
+        None,
+        (
+            Policy::Immediate,
+            CreateAlign::StartOfSubscription,
+            BillingAlign::Subscription,
+        ),
+    ),
+    // The version lacks the product.
+    (
+        "Lost",
+        None,
+        "SALE",
+        Some(PhaseType::Discount),
+        (
+            Policy::Immediate,
+            CreateAlign::StartOfSubscription,
+            BillingAlign::Bundle,
+        ),
+    ),
+];
+
 #[test]
 fn rules_of_one_plan(rt: HostRuntime) -> Result<(), Fail> {
     let version = two_lists(rt.alloc())?;
-    let add_on = Some(Category::AddOn);
-    let base = Some(Category::Base);
-    let trial = Some(PhaseType::Trial);
-    let discount = Some(PhaseType::Discount);
-    let bundle = CreateAlign::StartOfBundle;
-    let alone = CreateAlign::StartOfSubscription;
-    let cases = [
-        (
-            "Pro",
-            base,
-            "DEFAULT",
-            None,
-            Policy::EndOfTerm,
-            alone,
-            BillingAlign::Account,
-        ),
-        (
-            "Pro",
-            base,
-            "DEFAULT",
-            trial,
-            Policy::Immediate,
-            alone,
-            BillingAlign::Account,
-        ),
-        (
-            "Pro",
-            base,
-            "SALE",
-            discount,
-            Policy::EndOfTerm,
-            alone,
-            BillingAlign::Bundle,
-        ),
-        (
-            "Basic",
-            base,
-            "DEFAULT",
-            discount,
-            Policy::Immediate,
-            alone,
-            BillingAlign::Account,
-        ),
-        (
-            "Basic",
-            base,
-            "SALE",
-            None,
-            Policy::Immediate,
-            alone,
-            BillingAlign::Account,
-        ),
-        (
-            "Support",
-            add_on,
-            "DEFAULT",
-            None,
-            Policy::Illegal,
-            bundle,
-            BillingAlign::Subscription,
-        ),
-        (
-            "Support",
-            None,
-            "DEFAULT",
-            None,
-            Policy::Immediate,
-            alone,
-            BillingAlign::Subscription,
-        ),
-        // The version lacks the product.
-        (
-            "Lost",
-            None,
-            "SALE",
-            discount,
-            Policy::Immediate,
-            alone,
-            BillingAlign::Bundle,
-        ),
-    ];
-    plans_are_decided(&rt, &version, &cases)
+    plans_are_decided(&rt, &version)
 }
 
-/// Each row has a plan's product, category, list and phase; and what the rules of one plan give.
-fn plans_are_decided(
-    rt: &impl Abort,
-    version: &Valid,
-    rows: &[(
-        &str,
-        Option<Category>,
-        &str,
-        Option<PhaseType>,
-        Policy,
-        CreateAlign,
-        BillingAlign,
-    )],
-) -> Result<(), Fail> {
-    for (product, category, list, phase, policy, start, billing) in rows {
-        let plan = ask(product, *category, Period::Monthly, list, *phase)?;
-        assert_eq!(rt;
-            version.cancel_policy(&plan),
-            *policy,
-            "{product} by {list}"
-        );
-        assert_eq!(rt;
-            version.create_alignment(&plan),
-            *start,
-            "{product} by {list}"
-        );
-        assert_eq!(rt;
-            version.billing_alignment(&plan),
-            *billing,
-            "{product} by {list}"
-        );
+fn plans_are_decided(rt: &impl Abort, version: &Valid) -> Result<(), Fail> {
+    for row in &ROWS {
+        plan_is_decided(rt, version, row)?;
     }
+    Ok(())
+}
+
+fn plan_is_decided(rt: &impl Abort, version: &Valid, row: &Row) -> Result<(), Fail> {
+    let (product, category, list, phase, decided) = *row;
+    let plan = ask(product, category, Period::Monthly, list, phase)?;
+    let policy = version.cancel_policy(&plan);
+    let start = version.create_alignment(&plan);
+    let billing = version.billing_alignment(&plan);
+    assert_eq!(rt; (policy, start, billing), decided, "{product} by {list}");
     Ok(())
 }

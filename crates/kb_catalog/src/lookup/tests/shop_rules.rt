@@ -7,101 +7,87 @@ use kb_days::Period;
 use std::process::Abort;
 use std::test::Fail;
 
+/// The product of an annual plan that governs, and its category; the product and period that are asked for; the policy of
+/// the change; and the cancel policy and the alignment of a start of the one that governs.
+type Row = (
+    &'static str,
+    Option<Category>,
+    &'static str,
+    Period,
+    Policy,
+    (Policy, CreateAlign),
+);
+
+const ROWS: [Row; 5] = [
+    (
+        "Big",
+        Some(Category::Standalone),
+        "Basic",
+        Period::Annual,
+        Policy::Illegal,
+        (Policy::Immediate, CreateAlign::StartOfSubscription),
+    ),
+    (
+        "Basic",
+        Some(Category::Base),
+        "Big",
+        Period::Monthly,
+        Policy::Immediate,
+        (Policy::Immediate, CreateAlign::StartOfSubscription),
+    ),
+    (
+        "Pro",
+        Some(Category::Base),
+        "Basic",
+        Period::Annual,
+        Policy::EndOfTerm,
+        (Policy::EndOfTerm, CreateAlign::StartOfSubscription),
+    ),
+    (
+        "Support",
+        Some(Category::AddOn),
+        "Pro",
+        Period::Monthly,
+        Policy::Immediate,
+        (Policy::Immediate, CreateAlign::StartOfBundle),
+    ),
+    // The version lacks the product.
+    (
+        "Lost",
+        None,
+        "Lost",
+        Period::Annual,
+        Policy::EndOfTerm,
+        (Policy::Immediate, CreateAlign::StartOfSubscription),
+    ),
+];
+
 #[test]
 fn rules_of_the_shop(rt: HostRuntime) -> Result<(), Fail> {
     let version = valid(shop(rt.alloc())?)?;
-    let base = Some(Category::Base);
-    let standalone = Some(Category::Standalone);
-    let add_on = Some(Category::AddOn);
-    let bundle = CreateAlign::StartOfBundle;
-    let alone = CreateAlign::StartOfSubscription;
-    let cases = [
-        (
-            "Big",
-            standalone,
-            "Basic",
-            Period::Annual,
-            Policy::Illegal,
-            Policy::Immediate,
-            alone,
-        ),
-        (
-            "Basic",
-            base,
-            "Big",
-            Period::Monthly,
-            Policy::Immediate,
-            Policy::Immediate,
-            alone,
-        ),
-        (
-            "Pro",
-            base,
-            "Basic",
-            Period::Annual,
-            Policy::EndOfTerm,
-            Policy::EndOfTerm,
-            alone,
-        ),
-        (
-            "Support",
-            add_on,
-            "Pro",
-            Period::Monthly,
-            Policy::Immediate,
-            Policy::Immediate,
-            bundle,
-        ),
-        // The version lacks the product.
-        (
-            "Lost",
-            None,
-            "Lost",
-            Period::Annual,
-            Policy::EndOfTerm,
-            Policy::Immediate,
-            alone,
-        ),
-    ];
-    shop_rules_decide(&rt, &version, &cases)
+    shop_rules_decide(&rt, &version)
 }
 
-/// Each row has the product of an annual plan that governs, and its category; the product and period that are asked for;
-/// the policy of the change; and the cancel policy and the alignment of a start of the one that governs.
-fn shop_rules_decide(
-    rt: &impl Abort,
-    version: &Valid,
-    rows: &[(
-        &str,
-        Option<Category>,
-        &str,
-        Period,
-        Policy,
-        Policy,
-        CreateAlign,
-    )],
-) -> Result<(), Fail> {
-    for (product, category, other, period, policy, cancelled, start) in rows {
-        let from = ask(product, *category, Period::Annual, "DEFAULT", None)?;
-        let to = ask(other, None, *period, "DEFAULT", None)?;
-        shop_decides(rt, version, &ChangeAsk { from, to }, *policy)?;
-        shop_decides_alone(rt, version, &from, *cancelled, *start)?;
+fn shop_rules_decide(rt: &impl Abort, version: &Valid) -> Result<(), Fail> {
+    for row in &ROWS {
+        shop_decides(rt, version, row)?;
     }
     Ok(())
 }
 
-fn shop_decides(
-    rt: &impl Abort,
-    version: &Valid,
-    change: &ChangeAsk,
-    policy: Policy,
-) -> Result<(), Fail> {
-    let other = change.to.product.as_str();
-    assert_eq!(rt; version.change_policy(change), policy, "to {other}");
+fn shop_decides(rt: &impl Abort, version: &Valid, row: &Row) -> Result<(), Fail> {
+    let (product, category, other, period, policy, alone) = *row;
+    let from = ask(product, category, Period::Annual, "DEFAULT", None)?;
+    let to = ask(other, None, period, "DEFAULT", None)?;
+    shop_decides_alone(rt, version, &from, alone);
+    let change = ChangeAsk { from, to };
     assert_eq!(rt;
-        version.change_alignment(change),
-        Align::StartOfSubscription,
-        "to {other}"
+        (
+            version.change_policy(&change),
+            version.change_alignment(&change)
+        ),
+        (policy, Align::StartOfSubscription),
+        "{product} to {other}"
     );
     Ok(())
 }
@@ -110,16 +96,10 @@ fn shop_decides_alone(
     rt: &impl Abort,
     version: &Valid,
     plan: &PlanAsk,
-    policy: Policy,
-    start: CreateAlign,
-) -> Result<(), Fail> {
-    let product = plan.product.as_str();
-    assert_eq!(rt; version.cancel_policy(plan), policy, "{product}");
-    assert_eq!(rt; version.create_alignment(plan), start, "{product}");
-    assert_eq!(rt;
-        version.billing_alignment(plan),
-        BillingAlign::Account,
-        "{product}"
-    );
-    Ok(())
+    decided: (Policy, CreateAlign),
+) {
+    let policy = version.cancel_policy(plan);
+    let start = version.create_alignment(plan);
+    assert_eq!(rt; (policy, start), decided, "{}", plan.product.as_str());
+    assert_eq!(rt; version.billing_alignment(plan), BillingAlign::Account);
 }
