@@ -99,16 +99,19 @@ fn the_shop_is_read(rt: HostRuntime) -> Result<(), Fail> {
     let bytes = SHOP.as_bytes().to_vec(rt.alloc())?;
     let checked = read(rt.alloc(), bytes).ok().ok_or("a valid text")?;
     assert_eq!(rt; checked.text(), SHOP.as_bytes());
-    let version = checked.version().version();
+    is_the_shop(&rt, checked.version().version());
+    Ok(())
+}
+
+fn is_the_shop(rt: &impl Abort, version: &Version) {
+    let lists = (version.currencies.len(), version.lists.len());
     assert_eq!(rt; version.effective.number(), 18_262);
-    assert_eq!(rt; version.currencies.len(), 1);
+    assert_eq!(rt; lists, (1, 1));
     assert_eq!(rt; version.products.len(), 6);
     assert_eq!(rt; version.plans.len(), 7);
-    assert_eq!(rt; version.lists.len(), 1);
     assert!(rt; has_shop_rules(version));
     assert!(rt; begins_with_trial(version, 2));
     assert!(rt; !begins_with_trial(version, 0));
-    Ok(())
 }
 
 fn has_shop_rules(version: &Version) -> bool {
@@ -143,7 +146,7 @@ fn first_of(version: &Version, place: usize) -> Option<(PhaseType, Span, u64)> {
 
 #[test]
 fn changes_to_the_shop(rt: HostRuntime) -> Result<(), Fail> {
-    let rows = [
+    const ROWS: [(&str, &str, &str); 7] = [
         ("format = 1", "format = 3", "3 format"),
         ("effective = \"2020-01-01\"\n", "", "2 effective"),
         (
@@ -156,7 +159,7 @@ fn changes_to_the_shop(rt: HostRuntime) -> Result<(), Fail> {
         ("USD=1000", "USD=1000000001", "3 USD"),
         ("format = 1", "format =", "1"),
     ];
-    changes_are_told(&rt, rt.alloc(), SHOP, &rows)
+    changes_are_told(&rt, rt.alloc(), SHOP, &ROWS)
 }
 
 #[test]
@@ -166,14 +169,29 @@ fn as_long_as_may_be(rt: HostRuntime) -> Result<(), Fail> {
         (MAX_BYTES + 1, "7 60001"),
         (MAX_BYTES + 5_000, "7 65000"),
     ] {
-        let mut text = SHOP.as_bytes().to_vec(rt.alloc())?;
-        text.resize(length, b' ')?;
-        let catalog = told(rt.alloc(), text.as_slice())?;
-        assert_eq!(rt; catalog.as_str(), answer, "a catalog of {length}");
-        let mut text = OVERDUE.as_bytes().to_vec(rt.alloc())?;
-        text.resize(length, b' ')?;
-        let overdue = told_overdue(rt.alloc(), text.as_slice())?;
-        assert_eq!(rt; overdue.as_str(), answer, "overdue states of {length}");
+        let catalog = filled_up(rt.alloc(), SHOP, length)?;
+        let told = told(rt.alloc(), catalog.as_slice())?;
+        assert_eq!(rt; told.as_str(), answer, "a catalog of {length}");
+        overdue_is_told(&rt, rt.alloc(), length, answer)?;
     }
     Ok(())
+}
+
+fn overdue_is_told(
+    rt: &impl Abort,
+    alloc: Global,
+    length: usize,
+    answer: &str,
+) -> Result<(), Fail> {
+    let states = filled_up(alloc, OVERDUE, length)?;
+    let told = told_overdue(alloc, states.as_slice())?;
+    assert_eq!(rt; told.as_str(), answer, "overdue states of {length}");
+    Ok(())
+}
+
+/// The bytes of a text, filled up with spaces to this length.
+fn filled_up(alloc: Global, text: &str, length: usize) -> Result<Vec<u8>, Fail> {
+    let mut bytes = text.as_bytes().to_vec(alloc)?;
+    bytes.resize(length, b' ')?;
+    Ok(bytes)
 }

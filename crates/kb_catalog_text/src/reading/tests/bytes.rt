@@ -1,13 +1,14 @@
 //! Whatever the bytes of a text, an answer is told.
 
 use super::{told, told_overdue};
-use std::alloc::AllocError;
+use std::alloc::{AllocError, Global};
+use std::process::Abort;
 use std::test::Fail;
 
 #[test]
 fn few_bytes(rt: HostRuntime) -> Result<(), Fail> {
     // the bytes, and the answers as a catalog text and as an overdue text
-    let rows: [(&[u8], &str, &str); 12] = [
+    const ROWS: [(&[u8], &str, &str); 12] = [
         (b"", "2 format", "ok"),
         (b"\n", "2 format", "ok"),
         (b"# a note", "2 format", "ok"),
@@ -21,13 +22,10 @@ fn few_bytes(rt: HostRuntime) -> Result<(), Fail> {
         (b"format = 1\nformat = 1", "1", "1"),
         (b"format", "1", "1"),
     ];
-    for (bytes, catalog, overdue) in rows {
-        assert_eq!(rt; told(rt.alloc(), bytes)?.as_str(), catalog, "{bytes:?}");
-        assert_eq!(rt;
-            told_overdue(rt.alloc(), bytes)?.as_str(),
-            overdue,
-            "{bytes:?}"
-        );
+    for (bytes, catalog, overdue) in &ROWS {
+        let told = told(rt.alloc(), bytes)?;
+        assert_eq!(rt; told.as_str(), *catalog, "{bytes:?}");
+        overdue_is_told(&rt, rt.alloc(), bytes, overdue)?;
     }
     Ok(())
 }
@@ -35,7 +33,7 @@ fn few_bytes(rt: HostRuntime) -> Result<(), Fail> {
 #[test]
 fn many_bytes(rt: HostRuntime) -> Result<(), Fail> {
     // a piece, how many times it stands, and the answers
-    let rows = [
+    const ROWS: [(&str, u32, &str, &str); 16] = [
         ("[", 60_000, "1", "1"),
         ("[", 60_001, "7 60001", "7 60001"),
         ("]", 60_000, "1", "1"),
@@ -53,27 +51,27 @@ fn many_bytes(rt: HostRuntime) -> Result<(), Fail> {
         ("[[state]]\n", 1_000, "4 state", "2 name"),
         ("é", 30_000, "1", "1"),
     ];
-    for (piece, times, catalog, overdue) in rows {
+    for (piece, times, catalog, overdue) in &ROWS {
         let mut text = String::new(rt.alloc());
-        push_repeated(&mut text, piece, times)?;
-        assert_eq!(rt;
-            told(rt.alloc(), text.as_bytes())?.as_str(),
-            catalog,
-            "{piece} {times}"
-        );
-        assert_eq!(rt;
-            told_overdue(rt.alloc(), text.as_bytes())?.as_str(),
-            overdue,
-            "{piece} {times}"
-        );
+        push_repeated(&mut text, piece, *times)?;
+        let told = told(rt.alloc(), text.as_bytes())?;
+        assert_eq!(rt; told.as_str(), *catalog, "{piece} {times}");
+        overdue_is_told(&rt, rt.alloc(), text.as_bytes(), overdue)?;
     }
+    Ok(())
+}
+
+fn overdue_is_told(rt: &impl Abort, alloc: Global, bytes: &[u8], answer: &str) -> Result<(), Fail> {
+    let told = told_overdue(alloc, bytes)?;
+    let begin = bytes.get(..12).unwrap_or(bytes);
+    assert_eq!(rt; told.as_str(), answer, "{begin:?} of {}", bytes.len());
     Ok(())
 }
 
 #[test]
 fn deep_values(rt: HostRuntime) -> Result<(), Fail> {
     // what opens and closes a value, how deep, and the answer as an overdue text
-    let rows = [
+    const ROWS: [(&str, &str, u32, &str); 7] = [
         ("[", "]", 80, "3 state"),
         ("[", "]", 81, "1"),
         ("{a=", "}", 80, "3 state"),
@@ -82,18 +80,21 @@ fn deep_values(rt: HostRuntime) -> Result<(), Fail> {
         ("{a=", "}", 1_000, "1"),
         ("[", "]", 29_000, "1"),
     ];
-    for (open, close, times, answer) in rows {
-        let mut text = String::from_str(rt.alloc(), "state=")?;
-        push_repeated(&mut text, open, times)?;
-        text.push('1')?;
-        push_repeated(&mut text, close, times)?;
-        assert_eq!(rt;
-            told_overdue(rt.alloc(), text.as_bytes())?.as_str(),
-            answer,
-            "{open} {times}"
-        );
+    for (open, close, times, answer) in &ROWS {
+        let text = deep_state(rt.alloc(), open, close, *times)?;
+        let told = told_overdue(rt.alloc(), text.as_bytes())?;
+        assert_eq!(rt; told.as_str(), *answer, "{open} {times}");
     }
     Ok(())
+}
+
+/// An overdue text whose value lies so deep.
+fn deep_state(alloc: Global, open: &str, close: &str, times: u32) -> Result<String, Fail> {
+    let mut text = String::from_str(alloc, "state=")?;
+    push_repeated(&mut text, open, times)?;
+    text.push('1')?;
+    push_repeated(&mut text, close, times)?;
+    Ok(text)
 }
 
 fn push_repeated(text: &mut String, piece: &str, times: u32) -> Result<(), AllocError> {

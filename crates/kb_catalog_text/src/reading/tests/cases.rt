@@ -49,7 +49,7 @@ fn wrong_condition_is_told(
 
 #[test]
 fn conditions_on_a_change(rt: HostRuntime) -> Result<(), Fail> {
-    let keys = [
+    const KEYS: [(&str, &str); 9] = [
         ("from_product", "'Basic'"),
         ("from_category", "'BASE'"),
         ("from_period", "'MONTHLY'"),
@@ -61,30 +61,30 @@ fn conditions_on_a_change(rt: HostRuntime) -> Result<(), Fail> {
         ("to_list", "'DEFAULT'"),
     ];
     let policy = "policy='ILLEGAL'";
-    conditions_are_told(&rt, rt.alloc(), "change_policy", policy, &keys)?;
+    conditions_are_told(&rt, rt.alloc(), "change_policy", policy, &KEYS)?;
     let alignment = "alignment='CHANGE_OF_PLAN'";
-    conditions_are_told(&rt, rt.alloc(), "change_alignment", alignment, &keys)
+    conditions_are_told(&rt, rt.alloc(), "change_alignment", alignment, &KEYS)
 }
 
 #[test]
 fn conditions_on_a_plan(rt: HostRuntime) -> Result<(), Fail> {
-    let keys = [
+    const KEYS: [(&str, &str); 4] = [
         ("product", "'Basic'"),
         ("category", "'STANDALONE'"),
         ("period", "'THIRTY_DAYS'"),
         ("list", "'DEFAULT'"),
     ];
     let policy = "policy='ILLEGAL'";
-    conditions_are_told(&rt, rt.alloc(), "cancel_policy", policy, &keys)?;
+    conditions_are_told(&rt, rt.alloc(), "cancel_policy", policy, &KEYS)?;
     let alignment = "alignment='START_OF_BUNDLE'";
-    conditions_are_told(&rt, rt.alloc(), "create_alignment", alignment, &keys)?;
+    conditions_are_told(&rt, rt.alloc(), "create_alignment", alignment, &KEYS)?;
     let alignment = "alignment='BUNDLE'";
-    conditions_are_told(&rt, rt.alloc(), "billing_alignment", alignment, &keys)
+    conditions_are_told(&rt, rt.alloc(), "billing_alignment", alignment, &KEYS)
 }
 
 #[test]
 fn what_a_case_gives(rt: HostRuntime) -> Result<(), Fail> {
-    let rows = [
+    const ROWS: [(&str, &str, &str); 31] = [
         ("change_policy", "", "2 policy"),
         ("change_policy", "policy=5", "3 policy"),
         ("change_policy", "policy='CHANGE_OF_PLAN'", "3 policy"),
@@ -169,16 +169,16 @@ fn what_a_case_gives(rt: HostRuntime) -> Result<(), Fail> {
             "5 12 4",
         ),
     ];
-    for (list, case, answer) in rows {
+    for (list, case, answer) in &ROWS {
         let told = told_with(rt.alloc(), list, case)?;
-        assert_eq!(rt; told.as_str(), answer, "{list}: {case}");
+        assert_eq!(rt; told.as_str(), *answer, "{list}: {case}");
     }
     Ok(())
 }
 
 #[test]
 fn a_case_is_a_table(rt: HostRuntime) -> Result<(), Fail> {
-    let rows = [
+    const ROWS: [(&str, &str, &str); 5] = [
         (
             "change_policy = [",
             "change_policy = [5,",
@@ -205,5 +205,5 @@ fn a_case_is_a_table(rt: HostRuntime) -> Result<(), Fail> {
             "3 billing_alignment",
         ),
     ];
-    changes_are_told(&rt, rt.alloc(), SHOP, &rows)
+    changes_are_told(&rt, rt.alloc(), SHOP, &ROWS)
 }

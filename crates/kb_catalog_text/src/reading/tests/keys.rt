@@ -6,7 +6,7 @@ use std::test::Fail;
 
 #[test]
 fn keys_at_the_top(rt: HostRuntime) -> Result<(), Fail> {
-    let rows = [
+    const ROWS: [(&str, &str, &str); 28] = [
         ("format = 1\n", "", "2 format"),
         ("format = 1", "format = 2", "3 format"),
         ("format = 1", "format = 0", "3 format"),
@@ -36,12 +36,12 @@ fn keys_at_the_top(rt: HostRuntime) -> Result<(), Fail> {
         ("format = 1", "format = 1\nformats = 1", "4 formats"),
         ("format = 1", "format = 1\n\"\" = 1", "4 "),
     ];
-    changes_are_told(&rt, rt.alloc(), SHOP, &rows)
+    changes_are_told(&rt, rt.alloc(), SHOP, &ROWS)
 }
 
 #[test]
 fn arrays_and_tables_of_the_top_and_the_rules(rt: HostRuntime) -> Result<(), Fail> {
-    let rows = [
+    const ROWS: [(&str, &str, &str, &str); 30] = [
         ("product = [", "plan = [", "", "2 product"),
         ("product = [", "plan = [", "product = 5\n", "3 product"),
         ("product = [", "plan = [", "product = {}\n", "3 product"),
@@ -138,17 +138,17 @@ fn arrays_and_tables_of_the_top_and_the_rules(rt: HostRuntime) -> Result<(), Fai
         ),
         ("[rules]", "change", "[rules]\ncolour = 1\n", "4 colour"),
     ];
-    for (from, to, new, answer) in rows {
+    for (from, to, new, answer) in &ROWS {
         let text = replaced(rt.alloc(), SHOP, from, to, new)?;
         let told = told(rt.alloc(), text.as_bytes())?;
-        assert_eq!(rt; told.as_str(), answer, "{from} .. {to} -> {new}");
+        assert_eq!(rt; told.as_str(), *answer, "{from} .. {to} -> {new}");
     }
     Ok(())
 }
 
 #[test]
 fn keys_of_a_product(rt: HostRuntime) -> Result<(), Fail> {
-    let rows = [
+    const ROWS: [(&str, &str, &str); 20] = [
         ("name=\"Basic\", ", "", "2 name"),
         ("category=\"BASE\", ", "", "2 category"),
         (", available=[\"Support\"]", "", "ok"),
@@ -190,22 +190,22 @@ fn keys_of_a_product(rt: HostRuntime) -> Result<(), Fail> {
             "4 Name",
         ),
     ];
-    changes_are_told(&rt, rt.alloc(), SHOP, &rows)
+    changes_are_told(&rt, rt.alloc(), SHOP, &ROWS)
 }
 
 #[test]
 fn names_have_64_bytes_at_most(rt: HostRuntime) -> Result<(), Fail> {
+    const ROWS: [(&str, &str); 2] = [("123456789-._Z'},", "ok"), ("123456789-._Zz'},", "3 name")];
     let before =
         "product = [{category='BASE', name='a123456789b123456789c123456789d123456789e123456789f";
-    let rows = [("123456789-._Z'},", "ok"), ("123456789-._Zz'},", "3 name")];
     let (head, rest) = SHOP.split_once("product = [").ok_or("the products")?;
     let before = format!(in rt.alloc(); "{head}{before}")?;
-    texts_are_told(&rt, rt.alloc(), before.as_str(), rest, &rows)
+    texts_are_told(&rt, rt.alloc(), before.as_str(), rest, &ROWS)
 }
 
 #[test]
 fn keys_of_a_plan_and_a_list(rt: HostRuntime) -> Result<(), Fail> {
-    let rows = [
+    const ROWS: [(&str, &str, &str); 24] = [
         ("name=\"basic-monthly\", ", "", "2 name"),
         ("name=\"basic-monthly\"", "name=5", "3 name"),
         ("name=\"basic-monthly\"", "name='basic monthly'", "3 name"),
@@ -263,12 +263,12 @@ fn keys_of_a_plan_and_a_list(rt: HostRuntime) -> Result<(), Fail> {
         ("list = [", "list = [{name='A', plans=['thirty']},", "ok"),
         ("list = [", "list = [{name='A', plans=[]},", "ok"),
     ];
-    changes_are_told(&rt, rt.alloc(), SHOP, &rows)
+    changes_are_told(&rt, rt.alloc(), SHOP, &ROWS)
 }
 
 #[test]
 fn keys_of_a_phase(rt: HostRuntime) -> Result<(), Fail> {
-    let rows = [
+    const ROWS: [(&str, &str, &str); 21] = [
         ("type=\"TRIAL\", ", "", "2 type"),
         ("unit=\"DAYS\", ", "", "2 unit"),
         ("length=30, ", "", "2 length"),
@@ -299,5 +299,5 @@ fn keys_of_a_phase(rt: HostRuntime) -> Result<(), Fail> {
             "4 length",
         ),
     ];
-    changes_are_told(&rt, rt.alloc(), SHOP, &rows)
+    changes_are_told(&rt, rt.alloc(), SHOP, &ROWS)
 }

@@ -9,7 +9,7 @@ const HEAD: &str = "format = 1\neffective = '2020-01-01'\ncurrencies = ['USD']\n
 
 #[test]
 fn between_tables(rt: HostRuntime) -> Result<(), Fail> {
-    let rows = [
+    const ROWS: [(&str, &str); 18] = [
         ("product = [{colour=1}, 5]", "4 colour"),
         ("product = [5, {colour=1}]", "3 product"),
         ("product = [{colour=1}]", "4 colour"),
@@ -65,12 +65,12 @@ fn between_tables(rt: HostRuntime) -> Result<(), Fail> {
             "3 to_product",
         ),
     ];
-    texts_are_told(&rt, rt.alloc(), HEAD, "\n", &rows)
+    texts_are_told(&rt, rt.alloc(), HEAD, "\n", &ROWS)
 }
 
 #[test]
 fn within_a_product(rt: HostRuntime) -> Result<(), Fail> {
-    let rows = [
+    const ROWS: [(&str, &str); 11] = [
         ("zebra=1, apple=1", "4 apple"),
         ("Zebra=1, apple=1", "4 Zebra"),
         ("zebra=1, category=5", "4 zebra"),
@@ -87,12 +87,12 @@ fn within_a_product(rt: HostRuntime) -> Result<(), Fail> {
         ),
     ];
     let before = format!(in rt.alloc(); "{HEAD}product = [{{")?;
-    texts_are_told(&rt, rt.alloc(), before.as_str(), "}]\n", &rows)
+    texts_are_told(&rt, rt.alloc(), before.as_str(), "}]\n", &ROWS)
 }
 
 #[test]
 fn within_a_phase(rt: HostRuntime) -> Result<(), Fail> {
-    let rows = [
+    const ROWS: [(&str, &str); 15] = [
         ("unit='UNLIMITED', length=5, type='TRIAL'", "4 length"),
         ("unit='UNLIMITED', length=5", "4 length"),
         ("unit='UNLIMITED', length=5, apple=1", "4 apple"),
@@ -123,13 +123,13 @@ fn within_a_phase(rt: HostRuntime) -> Result<(), Fail> {
     ];
     let plan = "product = []\nplan = [{name='a', product='b', phase=[{";
     let before = format!(in rt.alloc(); "{HEAD}{plan}")?;
-    texts_are_told(&rt, rt.alloc(), before.as_str(), "}]}]\n", &rows)
+    texts_are_told(&rt, rt.alloc(), before.as_str(), "}]}]\n", &ROWS)
 }
 
 #[test]
 fn keys_come_before_rules(rt: HostRuntime) -> Result<(), Fail> {
     let broken = changed(rt.alloc(), SHOP, "[\"USD\"]", "[]")?;
-    let rows = [
+    const ROWS: [(&str, &str, &str); 6] = [
         (
             "billing_alignment = [",
             "billing_alignment = [{},",
@@ -141,5 +141,5 @@ fn keys_come_before_rules(rt: HostRuntime) -> Result<(), Fail> {
         ("product=\"Basic\"", "product=\"Lost\"", "5 1 0"),
         ("\"ACCOUNT\"}]", "\"ACCOUNT\"}", "1"),
     ];
-    changes_are_told(&rt, rt.alloc(), broken.as_str(), &rows)
+    changes_are_told(&rt, rt.alloc(), broken.as_str(), &ROWS)
 }

@@ -48,7 +48,7 @@ fn a_text_may_have_no_state(rt: HostRuntime) -> Result<(), Fail> {
 
 #[test]
 fn changes_to_the_states(rt: HostRuntime) -> Result<(), Fail> {
-    let rows = [
+    const ROWS: [(&str, &str, &str); 32] = [
         ("name=\"BLOCKED\", ", "", "2 name"),
         ("\"BLOCKED\"", "5", "3 name"),
         ("\"BLOCKED\"", "\"BLOCKED \"", "3 name"),
@@ -86,17 +86,17 @@ fn changes_to_the_states(rt: HostRuntime) -> Result<(), Fail> {
         ("state = [", "states = [", "4 states"),
         ("state = [", "colour = 1\nstate = [", "4 colour"),
     ];
-    for (old, new, answer) in rows {
+    for (old, new, answer) in &ROWS {
         let text = changed(rt.alloc(), OVERDUE, old, new)?;
         let told = told_overdue(rt.alloc(), text.as_bytes())?;
-        assert_eq!(rt; told.as_str(), answer, "{old} -> {new}");
+        assert_eq!(rt; told.as_str(), *answer, "{old} -> {new}");
     }
     Ok(())
 }
 
 #[test]
 fn texts_of_states(rt: HostRuntime) -> Result<(), Fail> {
-    let rows = [
+    const ROWS: [(&str, &str); 11] = [
         ("state = 5", "3 state"),
         ("state = {name='A'}", "3 state"),
         ("state = [{}]", "2 name"),
@@ -118,9 +118,9 @@ fn texts_of_states(rt: HostRuntime) -> Result<(), Fail> {
             "ok",
         ),
     ];
-    for (text, answer) in rows {
+    for (text, answer) in &ROWS {
         let told = told_overdue(rt.alloc(), text.as_bytes())?;
-        assert_eq!(rt; told.as_str(), answer, "{text}");
+        assert_eq!(rt; told.as_str(), *answer, "{text}");
     }
     Ok(())
 }

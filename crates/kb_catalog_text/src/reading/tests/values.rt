@@ -6,7 +6,7 @@ use std::test::Fail;
 
 #[test]
 fn words_of_periods_and_categories(rt: HostRuntime) -> Result<(), Fail> {
-    let rows = [
+    const ROWS: [(&str, &str, &str); 20] = [
         ("period=\"MONTHLY\"", "period='DAILY'", "ok"),
         ("period=\"MONTHLY\"", "period='WEEKLY'", "ok"),
         ("period=\"MONTHLY\"", "period='BIWEEKLY'", "ok"),
@@ -28,12 +28,12 @@ fn words_of_periods_and_categories(rt: HostRuntime) -> Result<(), Fail> {
         ("category=\"BASE\"", "category='ADD_ON'", "5 3 0"),
         ("category=\"BASE\"", "category='base'", "3 category"),
     ];
-    changes_are_told(&rt, rt.alloc(), SHOP, &rows)
+    changes_are_told(&rt, rt.alloc(), SHOP, &ROWS)
 }
 
 #[test]
 fn words_of_phases_and_units(rt: HostRuntime) -> Result<(), Fail> {
-    let rows = [
+    const ROWS: [(&str, &str, &str); 17] = [
         ("type=\"TRIAL\"", "type='DISCOUNT'", "ok"),
         ("type=\"TRIAL\"", "type='FIXEDTERM'", "ok"),
         ("type=\"TRIAL\"", "type='EVERGREEN'", "5 8 2"),
@@ -52,52 +52,69 @@ fn words_of_phases_and_units(rt: HostRuntime) -> Result<(), Fail> {
         ("unit=\"UNLIMITED\"", "unit='DAYS'", "2 length"),
         ("unit=\"UNLIMITED\"", "unit='YEARS', length=1", "5 7 0"),
     ];
-    changes_are_told(&rt, rt.alloc(), SHOP, &rows)
+    changes_are_told(&rt, rt.alloc(), SHOP, &ROWS)
 }
 
 #[test]
 fn words_of_policies_and_alignments(rt: HostRuntime) -> Result<(), Fail> {
-    let change = "change_alignment = [{alignment=\"START_OF_SUBSCRIPTION\"}";
-    let create = "alignment=\"START_OF_BUNDLE\"";
-    let billing = "alignment=\"ACCOUNT\"";
-    let rows = [
+    const ROWS: [(&str, &str, &str); 14] = [
         ("\"ILLEGAL\"", "'IMMEDIATE'", "ok"),
         ("\"ILLEGAL\"", "'END_OF_TERM'", "ok"),
         ("\"ILLEGAL\"", "'illegal'", "3 policy"),
         (
-            change,
+            "change_alignment = [{alignment=\"START_OF_SUBSCRIPTION\"}",
             "change_alignment = [{alignment='START_OF_BUNDLE'}",
             "ok",
         ),
         (
-            change,
+            "change_alignment = [{alignment=\"START_OF_SUBSCRIPTION\"}",
             "change_alignment = [{alignment='CHANGE_OF_PLAN'}",
             "ok",
         ),
         (
-            change,
+            "change_alignment = [{alignment=\"START_OF_SUBSCRIPTION\"}",
             "change_alignment = [{alignment='change_of_plan'}",
             "3 alignment",
         ),
         (
-            change,
+            "change_alignment = [{alignment=\"START_OF_SUBSCRIPTION\"}",
             "change_alignment = [{alignment='ACCOUNT'}",
             "3 alignment",
         ),
-        (create, "alignment='START_OF_SUBSCRIPTION'", "ok"),
-        (create, "alignment='CHANGE_OF_PLAN'", "3 alignment"),
-        (create, "alignment='start_of_bundle'", "3 alignment"),
-        (billing, "alignment='BUNDLE'", "ok"),
-        (billing, "alignment='SUBSCRIPTION'", "ok"),
-        (billing, "alignment='START_OF_BUNDLE'", "3 alignment"),
-        (billing, "alignment='account'", "3 alignment"),
+        (
+            "alignment=\"START_OF_BUNDLE\"",
+            "alignment='START_OF_SUBSCRIPTION'",
+            "ok",
+        ),
+        (
+            "alignment=\"START_OF_BUNDLE\"",
+            "alignment='CHANGE_OF_PLAN'",
+            "3 alignment",
+        ),
+        (
+            "alignment=\"START_OF_BUNDLE\"",
+            "alignment='start_of_bundle'",
+            "3 alignment",
+        ),
+        ("alignment=\"ACCOUNT\"", "alignment='BUNDLE'", "ok"),
+        ("alignment=\"ACCOUNT\"", "alignment='SUBSCRIPTION'", "ok"),
+        (
+            "alignment=\"ACCOUNT\"",
+            "alignment='START_OF_BUNDLE'",
+            "3 alignment",
+        ),
+        (
+            "alignment=\"ACCOUNT\"",
+            "alignment='account'",
+            "3 alignment",
+        ),
     ];
-    changes_are_told(&rt, rt.alloc(), SHOP, &rows)
+    changes_are_told(&rt, rt.alloc(), SHOP, &ROWS)
 }
 
 #[test]
 fn dates(rt: HostRuntime) -> Result<(), Fail> {
-    let rows = [
+    const ROWS: [(&str, &str); 16] = [
         ("'2000-01-01'", "ok"),
         ("'2099-12-31'", "ok"),
         ("'2020-02-29'", "ok"),
@@ -116,12 +133,12 @@ fn dates(rt: HostRuntime) -> Result<(), Fail> {
         ("18262", "3 effective"),
     ];
     let (before, after) = SHOP.split_once("\"2020-01-01\"").ok_or("the date")?;
-    texts_are_told(&rt, rt.alloc(), before, after, &rows)
+    texts_are_told(&rt, rt.alloc(), before, after, &ROWS)
 }
 
 #[test]
 fn numbers(rt: HostRuntime) -> Result<(), Fail> {
-    let rows = [
+    const ROWS: [(&str, &str, &str); 20] = [
         ("length=30", "length=-1", "3 length"),
         ("length=30", "length=0", "3 length"),
         ("length=30", "length=1", "ok"),
@@ -143,12 +160,12 @@ fn numbers(rt: HostRuntime) -> Result<(), Fail> {
         ("USD=1000", "USD={}", "3 USD"),
         ("USD=1000", "USD.minor=1000", "3 USD"),
     ];
-    changes_are_told(&rt, rt.alloc(), SHOP, &rows)
+    changes_are_told(&rt, rt.alloc(), SHOP, &ROWS)
 }
 
 #[test]
 fn keys_of_prices(rt: HostRuntime) -> Result<(), Fail> {
-    let rows = [
+    const ROWS: [(&str, &str); 11] = [
         ("", "5 9 0"),
         ("USD=1000, EUR=5", "5 10 0"),
         ("usd=1000", "4 usd"),
@@ -162,16 +179,16 @@ fn keys_of_prices(rt: HostRuntime) -> Result<(), Fail> {
         ("USD=1, USD=2", "1"),
     ];
     let (before, after) = SHOP.split_once("USD=1000").ok_or("the price")?;
-    texts_are_told(&rt, rt.alloc(), before, after, &rows)
+    texts_are_told(&rt, rt.alloc(), before, after, &ROWS)
 }
 
 #[test]
 fn two_currencies(rt: HostRuntime) -> Result<(), Fail> {
     let text = changed(rt.alloc(), SHOP, "[\"USD\"]", "[\"USD\", \"EUR\"]")?;
-    let rows = [
+    const ROWS: [(&str, &str, &str); 3] = [
         ("USD=1000", "EUR=1000", "ok"),
         ("USD=1000", "USD=1000, EUR=1000", "ok"),
         ("USD=1000", "EUR=1000, GBP=5", "5 10 0"),
     ];
-    changes_are_told(&rt, rt.alloc(), text.as_str(), &rows)
+    changes_are_told(&rt, rt.alloc(), text.as_str(), &ROWS)
 }
