@@ -28,3 +28,4 @@ pub mod OwnRuns
 pub mod NamedDays
 pub mod FeeDays
 pub mod LastDays
+pub mod FeesOfOneDay

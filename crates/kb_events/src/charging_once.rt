@@ -1,7 +1,8 @@
 //! The fees of a subscription.
-ghost use Rattle.std.specs.Prelude.{◌≡◌, ◌<◌, ◌≤◌, ◌-◌, true, length, map, IfOk, IfSome, OnOk};
-ghost use Rattle.kb_base.specs.Runs.{runs, AreRuns};
+ghost use Rattle.std.specs.Prelude.{◌≡◌, ◌<◌, ◌≤◌, ◌+◌, ◌-◌, true, length, map, All, IfOk, IfSome, OnOk};
+ghost use Rattle.kb_base.specs.Runs.{Stretch, runs, AreRuns};
 ghost use Rattle.kb_days.specs.Calendar.{first_day};
+ghost use Rattle.kb_due.specs.declared.cell.Cell.{Cell};
 ghost use Rattle.kb_due.specs.DueDays.{fee_of, fee_on};
 ghost use Rattle.kb_events.specs.Cuts.{HasDay, AreCuts, end_of_days};
 ghost use Rattle.kb_events.specs.Ends.{IsLifeEnd};
@@ -25,6 +26,7 @@ pub fn fees(alloc: Global, facts: &Facts, sub: u32, t: Day) -> Result<Vec<Piece>
     requires there { sub < length facts.now.timeline.subscriptions }
     ensures value { IfOk result (λ found. map stretch_of found.items ≡ told.fees facts.now sub t) }
     ensures longest { IfOk result (λ found. AreRuns same_cell (fee_on facts.now sub t) first_day end_of_days (map stretch_of found.items)) }
+    ensures one_day { IfOk result (λ found. All (λ (stretch : Stretch Cell). stretch.to ≡ stretch.from + 1) (map stretch_of found.items)) }
 {
     let subscription = facts.timeline.subscription(sub);
     let course = course_of(alloc, facts, subscription, sub)?;
