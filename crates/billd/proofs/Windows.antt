@@ -3,7 +3,7 @@ use Rattle.std.proofs.Common.{◌≡◌, ◌⊎◌, inl, inr, ℕ, ◌+◌, ◌<
 use Rattle.kb_base.specs.Runs.{runs}
 use Rattle.kb_base.proofs.Windows.{runs-window}
 use Rattle.kb_days.specs.Calendar.{month_of}
-use Rattle.kb_days.proofs.Marks.{month_of-last_billed}
+use Rattle.kb_days.proofs.Marks.{month_of-last_charged}
 use Rattle.kb_days.proofs.Months.{mark-first, month_length-high, month_start-suc, month_of-began}
 use Rattle.kb_due.specs.declared.first.FirstCell.{FirstCell}
 use Rattle.kb_due.specs.FirstDue.{period_end}
@@ -18,7 +18,7 @@ use Rattle.billd.proofs.OneCharge.{missing-none}
 pub period_end-soon : (day : ℕ) → period_end day ≤ day + 31
 period_end-soon day = omega (arith, month_start-suc (month_of day), month_length-high (month_of day), month_of-began day)
 
-pub ruleset month_ends = (mark-first, period_end-soon, month_of-last_billed)
+pub ruleset month_ends = (mark-first, period_end-soon, month_of-last_charged)
 
 -- nothing is due outside
 due_from-outside : (start cancel billed : Option ℕ) (day : ℕ) → IsOutsideOf start billed day → due_from start cancel billed day ≡ None

@@ -15,6 +15,16 @@ third = refl
 stands_still : next_count last_count ≡ last_count
 stands_still = refl
 
+-- two counts in one, which stands still at its last value
+abbrev pub add_counts : ℕ → ℕ → ℕ
+add_counts one other = min (one + other) last_count
+
+three_and_four : add_counts 3 4 ≡ 7
+three_and_four = refl
+
+no_more_than_the_last : add_counts last_count 4 ≡ last_count
+no_more_than_the_last = refl
+
 -- the count rose; one that stands at its last value counts as risen
 abbrev pub Rose : ℕ → ℕ → Type 0
 Rose old new = new < last_count → old < new

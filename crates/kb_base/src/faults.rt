@@ -1,6 +1,6 @@
 //! Counts of faults.
-ghost use Rattle.std.specs.Prelude.{◌≡◌, ◌≤◌};
-ghost use Rattle.kb_base.specs.Faults.{next_count, Rose};
+ghost use Rattle.std.specs.Prelude.{◌≡◌, ◌≤◌, ◌<◌, ℕ};
+ghost use Rattle.kb_base.specs.Faults.{next_count, add_counts, Rose};
 
 use crate::Failed;
 use std::marker::Model;
@@ -39,6 +39,16 @@ impl FaultCount {
         Failed
     }
 
+    /// Counts the failed calls of another object too, such as those of a disk that is given back.
+    pub fn add(&mut self, other: FaultCount)
+        ensures counted { self.new ≡ add_counts self.old other }
+        ensures rose { 0 < other → Rose self.old self.new }
+        ensures rising { self.old ≤ self.new }
+        ensures calm { other ≡ 0 → self.new ≡ self.old }
+    {
+        self.count = self.count.saturating_add(other.count);
+    }
+
     /// How many calls have failed.
     pub fn number(self) -> u64
         ensures { result ≡ self }
@@ -61,5 +71,10 @@ mod tests {
         let mut last = FaultCount { count: u64::MAX };
         assert_eq!(rt; last.fail(), Failed);
         assert_eq!(rt; last.number(), u64::MAX);
+        let three = faults;
+        faults.add(three);
+        assert_eq!(rt; faults.number(), 6);
+        faults.add(last);
+        assert_eq!(rt; faults.number(), u64::MAX);
     }
 }

@@ -8,7 +8,9 @@
 mod fault;
 mod faults;
 mod seq;
+mod sharing;
 
 pub use fault::{Failed, NoMemory};
 pub use faults::FaultCount;
 pub use seq::Seq;
+pub use sharing::shared;

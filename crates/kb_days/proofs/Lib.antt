@@ -8,3 +8,4 @@ pub mod CivilTexts
 pub mod ReadDates
 pub mod LaterDays
 pub mod NameBytes
+pub mod ExampleDates

@@ -1,14 +1,14 @@
 -- Days that are marked by one number rise month by month.
 use Rattle.std.proofs.Common.{◌≡◌, ℕ, ◌+◌, ◌<◌, ◌≤◌, inl, inr, refl, arith}
 use Rattle.std.proofs.lemmas.Bool.{cases_lt}
-use Rattle.kb_days.specs.Calendar.{first_day, month_start, month_length, mark, month_of}
+use Rattle.kb_days.specs.Calendar.{first_day, last_charged, end_of_days, month_start, month_length, mark, month_of}
 use Rattle.kb_days.proofs.Months.{month_start-rises, month_start-order, month_of-began, month_of-not_over, mark-began, mark-not_over}
 
 january_2000 : month_start 360 ≡ 10957
 unfolding month_start month_length
 january_2000 = refl
 
-february_2102 : month_start 1585 ≡ 48243
+february_2102 : month_start 1585 ≡ end_of_days
 unfolding month_start month_length
 february_2102 = refl
 
@@ -18,9 +18,9 @@ month_of-first_day day h =
     let order = month_start-order 360 (month_of day + 1) (omega (arith, january_2000, month_of-not_over day)) in
     omega (arith, order)
 
--- the days that are billed lie in or before January 2102
-pub month_of-last_billed : (day : ℕ) → day ≤ 48242 → month_of day ≤ 1584
-month_of-last_billed day h =
+-- the days that may be charged lie in or before January 2102
+pub month_of-last_charged : (day : ℕ) → day ≤ last_charged → month_of day ≤ 1584
+month_of-last_charged day h =
     let order = month_start-order (month_of day) 1585 (omega (arith, february_2102, month_of-began day)) in
     omega (arith, order)
 

@@ -1,5 +1,5 @@
 -- The civil calendar. Days are counted from 1970-01-01 and months from January 1970; the first of each is 0.
-use Rattle.std.specs.Prelude.{ℕ, zero, suc, ◌+◌, ◌-◌, ◌/◌, ◌%◌, ◌≡◌, min, pos, nat_lt, if◌then◌else◌, refl}
+use Rattle.std.specs.Prelude.{ℕ, zero, suc, ◌+◌, ◌-◌, ◌*◌, ◌/◌, ◌%◌, ◌≡◌, min, pos, nat_lt, if◌then◌else◌, refl}
 use Rattle.jiff_core.specs.Calendar.{days_in_month}
 
 -- 2000-01-01 and 2099-12-31: the days that a command may name
@@ -9,12 +9,34 @@ first_day = 10957
 abbrev pub last_day : ℕ
 last_day = 47481
 
+-- 2102-01-31: the last day that may be charged, since a period that begins on a day that commands name is over by then
+abbrev pub last_charged : ℕ
+last_charged = 48242
+
+-- 2102-02-01: from this day on nothing is ever charged
+abbrev pub end_of_days : ℕ
+end_of_days = last_charged + 1
+
+-- how many days may be charged, from the first one that commands name on
+abbrev pub charged_days : ℕ
+charged_days = end_of_days - first_day
+
+all_charged_days : charged_days ≡ 37286
+all_charged_days = refl
+
 -- the days that may follow from those, as the end of a period does
 abbrev pub first_reach : ℕ
 first_reach = 10000
 
 abbrev pub last_reach : ℕ
 last_reach = 49000
+
+-- a month by its year, and its number in that
+abbrev pub month_in : ℕ → ℕ → ℕ
+month_in year number = 12 * (year - 1970) + (number - 1)
+
+march_of_2024 : month_in 2024 3 ≡ 650
+march_of_2024 = refl
 
 -- how many days a month has
 unfoldable pub month_length : ℕ → ℕ

@@ -3,3 +3,4 @@ pub mod DateText
 pub mod Names
 pub mod Periods
 pub mod Adding
+pub mod Dates

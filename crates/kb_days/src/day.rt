@@ -4,8 +4,25 @@ ghost use Rattle.kb_days.specs.Calendar.{first_day, last_day, first_reach, last_
 
 use std::marker::Model;
 
-/// A day that a command may name: a number of days from 1970-01-01, from 10957 (2000-01-01) to
-/// 47481 (2099-12-31).
+/// 2000-01-01: the first day that a command may name.
+pub const FIRST_DAY: u32 = 10_957;
+
+/// 2099-12-31: the last day that a command may name.
+pub const LAST_DAY: u32 = 47_481;
+
+/// 2102-01-31: the last day that may be charged, since a period that begins on a `Day` is over by then.
+pub const LAST_CHARGED: u32 = 48_242;
+
+/// 2102-02-01: from this day on nothing is ever charged.
+pub const END_OF_DAYS: u32 = LAST_CHARGED + 1;
+
+/// 1997-05-19: the first day of `Reach`.
+pub const FIRST_REACH: u32 = 10_000;
+
+/// 2104-02-28: the last day of `Reach`.
+pub const LAST_REACH: u32 = 49_000;
+
+/// A day that a command may name: a number of days from 1970-01-01, from `FIRST_DAY` to `LAST_DAY`.
 #[derive(Clone, Copy, Debug, PartialEq, Eq, Hash, PartialOrd, Ord)]
 pub struct Day {
     number: u32,
@@ -22,12 +39,12 @@ impl Model for Day {
 }
 
 impl Day {
-    /// The day with this number; none outside 10957 to 47481.
+    /// The day with this number; none outside `FIRST_DAY` to `LAST_DAY`.
     pub fn new(number: u32) -> Option<Day>
         ensures accepted { IsSome result ↔ ((first_day ≤ number) × (number ≤ last_day)) }
         ensures value { IfSome result (λ day. day ≡ number) }
     {
-        if (10957..=47481).contains(&number) {
+        if (FIRST_DAY..=LAST_DAY).contains(&number) {
             Some(Day { number })
         } else {
             None
@@ -55,8 +72,8 @@ impl Day {
     }
 }
 
-/// A day that may follow from a named one, such as the end of a period: a number of days from
-/// 1970-01-01, from 10000 (1997-05-19) to 49000 (2104-02-28).
+/// A day that may follow from a named one, such as the end of a period: a number of days from 1970-01-01, from
+/// `FIRST_REACH` to `LAST_REACH`.
 #[derive(Clone, Copy, Debug, PartialEq, Eq, Hash, PartialOrd, Ord)]
 pub struct Reach {
     number: u32,
@@ -73,12 +90,12 @@ impl Model for Reach {
 }
 
 impl Reach {
-    /// The day with this number; none outside 10000 to 49000.
+    /// The day with this number; none outside `FIRST_REACH` to `LAST_REACH`.
     pub fn new(number: u32) -> Option<Reach>
         ensures accepted { IsSome result ↔ ((first_reach ≤ number) × (number ≤ last_reach)) }
         ensures value { IfSome result (λ day. day ≡ number) }
     {
-        if (10000..=49000).contains(&number) {
+        if (FIRST_REACH..=LAST_REACH).contains(&number) {
             Some(Reach { number })
         } else {
             None

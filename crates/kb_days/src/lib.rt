@@ -20,7 +20,9 @@ mod span;
 pub use adding::add;
 pub use calendar::{day_of_month, mark, month_of};
 pub use date_text::{BadDate, parse, text};
-pub use day::{Bcd, Day, Reach};
+pub use day::{
+    Bcd, Day, END_OF_DAYS, FIRST_DAY, FIRST_REACH, LAST_CHARGED, LAST_DAY, LAST_REACH, Reach,
+};
 pub use name::Name;
 pub use period::Period;
 pub use span::{Count, Span};

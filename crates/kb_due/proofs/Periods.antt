@@ -2,7 +2,7 @@
 use Rattle.std.proofs.Common.{ℕ, ◌+◌, ◌<◌, ◌≤◌, sym, ◌∙◌, arith}
 use Rattle.kb_days.specs.Calendar.{month_start, month_of}
 use Rattle.kb_days.proofs.Months.{mark-first, month_length-high, month_start-suc, month_start-rises, month_start-order}
-use Rattle.kb_days.proofs.Marks.{month_of-first_day, month_of-last_billed}
+use Rattle.kb_days.proofs.Marks.{month_of-first_day, month_of-last_charged}
 use Rattle.kb_days.proofs.Months.{month_of-began, month_of-not_over, month_of-only, month_of-rises}
 use Rattle.kb_due.specs.FirstDue.{period_start, period_end, IsPeriod}
 
@@ -42,7 +42,7 @@ pub period_start-after : (day later : ℕ) → period_end day ≤ later → peri
 period_start-after day later h = month_start-last later (month_of day + 1) h
 
 -- the months of days on which something may be due, and where they start
-pub ruleset months = (month_of-first_day, month_of-last_billed, mark-first)
+pub ruleset months = (month_of-first_day, month_of-last_charged, mark-first)
 
 -- each day has a period
 pub ruleset periods = (month-IsPeriod)
