@@ -1,6 +1,9 @@
 -- What the runs of a key say of one day, and what each of them says.
-use Rattle.std.proofs.Common.{◌≡◌, ℕ, zero, suc, ◌+◌, ◌<◌, ◌≤◌, ◌⊎◌, inl, inr, Bool, true, false, ◌&&◌, ◌==◌, nat_le, List, [], ◌∷◌, map, Option, Some, None, All, option_to_list, refl, ap, ◌∙◌, arith}
-use Rattle.std.proofs.lemmas.Bool.{cond_both, cond-true, cond-false, and_from, and_left, and_right, le-leb, lt-leb, lt-ltb, le-ltb, cases_lt}
+use Rattle.std.proofs.Common.{◌≡◌, ℕ, zero, suc, ◌+◌, ◌<◌, ◌≤◌, ◌⊎◌, inl, inr, Bool, true, false, ◌&&◌, ◌==◌}
+use Rattle.std.proofs.Common.{nat_le, List, [], ◌∷◌, map, Option, Some, None, All, option_to_list, refl, ap}
+use Rattle.std.proofs.Common.{◌∙◌, arith}
+use Rattle.std.proofs.lemmas.Bool.{cond_both, cond-true, cond-false, and_from, and_left, and_right, le-leb}
+use Rattle.std.proofs.lemmas.Bool.{lt-leb, lt-ltb, le-ltb, cases_lt}
 use Rattle.std.proofs.lemmas.List.Elements.{All-nil, All-cons, All-head, All-tail}
 use Rattle.kb_base.specs.Runs.{Stretch, has_day, values_on, with_day, runs, IsSame, IsStretch, AreRuns}
 use Rattle.kb_base.proofs.Tiled.{runs-are, joined-parts}
@@ -16,7 +19,8 @@ module _ {V : Type 0} where
   -- a stretch that hasn't the day gives nothing
   values_on-misses : (d : ℕ) (first : Stretch V) (later : List (Stretch V)) → has_day d first ≡ false
       → values_on d (first ∷ later) ≡ values_on d later
-  values_on-misses d first later misses = ap (map (λ stretch. stretch.value)) (cond-false (has_day d first) _ _ misses)
+  values_on-misses d first later misses =
+      ap (map (λ stretch. stretch.value)) (cond-false (has_day d first) _ _ misses)
 
   -- a stretch has no day before it
   has_day-before : (d : ℕ) (stretch : Stretch V) → d < stretch.from → has_day d stretch ≡ false
@@ -46,14 +50,21 @@ module _ {V : Type 0} where
 
 module _ {V : Type 0} (same : V → V → Bool) where
   -- a day more lies within these days too
-  with_day-within : (low high day : ℕ) (found : Option V) (later : List (Stretch V)) → low ≤ day → day + 1 ≤ high
+  with_day-within : (low high day : ℕ) (found : Option V) (later : List (Stretch V)) → low ≤ day
+      → day + 1 ≤ high
       → All (IsWithin low high) later → All (IsWithin low high) (with_day same day found later)
   with_day-within low high day None later above below within = within
   with_day-within low high day (Some value) [] above below within =
-      All-cons (IsWithin low high) _ [] (record { begins = above; some_day = omega arith; ends = below }) within
+      All-cons (IsWithin low high) _ [] (record {
+        begins =
+            above;
+        some_day = omega arith;
+        ends = below;
+      }) within
   with_day-within low high day (Some value) (next ∷ later) above below within =
       cond_both ((next.from == day + 1) && same value next.value) _ _ (All (IsWithin low high))
-      (λ test. All-cons (IsWithin low high) _ later (joined test) (All-tail (IsWithin low high) next later within))
+      (λ test. All-cons (IsWithin low high) _ later (joined test)
+      (All-tail (IsWithin low high) next later within))
       (λ _. All-cons (IsWithin low high) _ (next ∷ later) alone within)
     where
       joined : ((next.from == day + 1) && same value next.value) ≡ true
@@ -76,7 +87,8 @@ module _ {V : Type 0} (same : V → V → Bool) where
       (runs-within key low high (day + 1) count (omega arith) (omega arith))
 
   -- no run has a day before the first one
-  pub runs-before : (key : ℕ → Option V) (day count d : ℕ) → d < day → values_on d (runs same key day count) ≡ []
+  pub runs-before : (key : ℕ → Option V) (day count d : ℕ) → d < day
+      → values_on d (runs same key day count) ≡ []
   runs-before key day count d before =
       values_on-outside day (day + count) d (runs same key day count) (inl before)
       (runs-within key day (day + count) day count (omega arith) (omega arith))
@@ -90,7 +102,8 @@ module _ {V : Type 0} (same : V → V → Bool) where
 
 module _ {V : Type 0} (same : V → V → Bool) (key : ℕ → Option V) where
   -- the longest runs have no day before the first one
-  AreRuns-before : (day end d : ℕ) (stretches : List (Stretch V)) → d < day → AreRuns same key day end stretches
+  AreRuns-before : (day end d : ℕ) (stretches : List (Stretch V)) → d < day
+      → AreRuns same key day end stretches
       → values_on d stretches ≡ []
   AreRuns-before day end d [] before are = refl
   AreRuns-before day end d (first ∷ later) before are =
@@ -102,18 +115,21 @@ module _ {V : Type 0} (same : V → V → Bool) (key : ℕ → Option V) where
       → AreRuns same key day end stretches → values_on d stretches ≡ option_to_list (key d)
   AreRuns-cover day end d [] low high are = rw (are d low high) refl
   AreRuns-cover day end d (first ∷ later) low high are =
-      by_place (cases_lt d first.from) (cases_lt d first.to) (λ after. AreRuns-cover first.to end d later after high are.3)
+      by_place (cases_lt d first.from) (cases_lt d first.to)
+      (λ after. AreRuns-cover first.to end d later after high are.3)
     where
       by_place : (d < first.from) ⊎ (first.from ≤ d) → (d < first.to) ⊎ (first.to ≤ d)
           → (first.to ≤ d → values_on d later ≡ option_to_list (key d))
           → values_on d (first ∷ later) ≡ option_to_list (key d)
       by_place (inl before) at_end rest =
           values_on-misses d first later (has_day-before d first before)
-          ∙ rw (are.1 d low before) (AreRuns-before first.to end d later (omega (arith, are.0.some_day)) are.3)
+          ∙ rw (are.1 d low before)
+          (AreRuns-before first.to end d later (omega (arith, are.0.some_day)) are.3)
       by_place (inr from) (inl to) rest =
           values_on-has d first later from to
           ∙ rw (are.0.valued d from to, AreRuns-before first.to end d later to are.3) refl
-      by_place (inr from) (inr after) rest = values_on-misses d first later (has_day-after d first after) ∙ rest after
+      by_place (inr from) (inr after) rest =
+          values_on-misses d first later (has_day-after d first after) ∙ rest after
 
   -- each of the longest runs is a stretch of the key
   pub AreRuns-each : (low day end : ℕ) (stretches : List (Stretch V)) → low ≤ day
@@ -121,20 +137,27 @@ module _ {V : Type 0} (same : V → V → Bool) (key : ℕ → Option V) where
   AreRuns-each low day end [] above are = All-nil (IsStretch key low end)
   AreRuns-each low day end (first ∷ later) above are =
       All-cons (IsStretch key low end) first later
-      (record { begins = omega (arith, are.0.begins); some_day = are.0.some_day; ends = are.0.ends; valued = are.0.valued })
+      (record {
+        begins = omega (arith, are.0.begins);
+        some_day = are.0.some_day;
+        ends = are.0.ends;
+        valued = are.0.valued;
+      })
       (AreRuns-each low first.to end later (omega (arith, are.0.begins, are.0.some_day)) are.3)
 
 -- the values of the runs on one of their days are the key's value there
 pub runs-cover : {V : Type 0} (same : V → V → Bool) → IsSame same → (key : ℕ → Option V) (day count d : ℕ)
     → day ≤ d → d < day + count → values_on d (runs same key day count) ≡ option_to_list (key d)
 runs-cover same is key day count d low high =
-    AreRuns-cover same key day (day + count) d (runs same key day count) low high (runs-are same is key day count)
+    AreRuns-cover same key day (day + count) d (runs same key day count) low high
+    (runs-are same is key day count)
 
 -- each run is a stretch of the key
 pub each-run : {V : Type 0} (same : V → V → Bool) → IsSame same → (key : ℕ → Option V) (day count : ℕ)
     → All (IsStretch key day (day + count)) (runs same key day count)
 each-run same is key day count =
-    AreRuns-each same key day day (day + count) (runs same key day count) (omega arith) (runs-are same is key day count)
+    AreRuns-each same key day day (day + count) (runs same key day count) (omega arith)
+    (runs-are same is key day count)
 
 -- a stretch's value is what its first day has
 pub IsStretch-first : {V : Type 0} (key : ℕ → Option V) (day end : ℕ) (stretch : Stretch V)

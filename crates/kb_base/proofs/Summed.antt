@@ -1,5 +1,7 @@
 -- Sums over days, and what runs weigh in all.
-use Rattle.std.proofs.Common.{◌⊎◌, inl, inr, ap, ◌∙◌, ◌≡◌, ℕ, zero, suc, ◌+◌, ◌-◌, ◌*◌, ◌/◌, ◌<◌, ◌≤◌, Bool, List, [], ◌∷◌, Option, Some, None, ◌==◌, nat_eq, if◌then◌else◌, sum_by, refl, sym, arith}
+use Rattle.std.proofs.Common.{◌⊎◌, inl, inr, ap, ◌∙◌, ◌≡◌, ℕ, zero, suc, ◌+◌, ◌-◌, ◌*◌, ◌/◌, ◌<◌, ◌≤◌, Bool}
+use Rattle.std.proofs.Common.{List, [], ◌∷◌, Option, Some, None, ◌==◌, nat_eq, if◌then◌else◌, sum_by, refl}
+use Rattle.std.proofs.Common.{sym, arith}
 use Rattle.std.specs.List.{range_with_len}
 use Rattle.std.proofs.lemmas.List.Sums.{sum_by-cons}
 use Rattle.kb_base.specs.Runs.{Stretch, runs, IsSame, HasNone, IsStretch, AreRuns, weight_of}
@@ -8,7 +10,8 @@ use Rattle.kb_base.proofs.Tiled.{runs-are}
 -- days and the days after them make up a longer time
 pub sum_by-range-split : (f : ℕ → ℕ) (from middle first rest count : ℕ)
     → from + first ≡ middle → first + rest ≡ count
-    → sum_by f (range_with_len from count) ≡ sum_by f (range_with_len from first) + sum_by f (range_with_len middle rest)
+    → sum_by f (range_with_len from count) ≡ sum_by f (range_with_len from first) + sum_by f
+    (range_with_len middle rest)
 sum_by-range-split f from middle zero rest count e g =
     let begins : from ≡ middle = omega arith in
     let all : rest ≡ count = omega arith in
@@ -51,10 +54,18 @@ sum_by-range-none f from (suc count) none =
     omega arith
 
 -- a sum of two weights is the two sums
-pub sum_by-plus : {X : Type 0} (f g : X → ℕ) (xs : List X) → sum_by (λ x. f x + g x) xs ≡ sum_by f xs + sum_by g xs
+pub sum_by-plus : {X : Type 0} (f g : X → ℕ) (xs : List X)
+    → sum_by (λ x. f x + g x) xs ≡ sum_by f xs + sum_by g xs
 sum_by-plus f g [] = refl
 sum_by-plus f g (x ∷ xs) =
-    omega (arith, sum_by-plus f g xs, sum_by-cons (λ y. f y + g y) x xs, sum_by-cons f x xs, sum_by-cons g x xs)
+    omega (
+      arith,
+      sum_by-plus f g xs,
+      sum_by-cons
+          (λ y. f y + g y) x xs,
+      sum_by-cons f x xs,
+      sum_by-cons g x xs,
+    )
 
 module _ {V : Type 0} (same : V → V → Bool) (key : ℕ → Option V) (weight : V → ℕ → ℕ) where
   -- days without a value weigh nothing
@@ -75,20 +86,24 @@ module _ {V : Type 0} (same : V → V → Bool) (key : ℕ → Option V) (weight
   -- the longest runs weigh over their days what all days weigh
   pub sum-AreRuns : (day count end : ℕ) (stretches : List (Stretch V))
       → day + count ≡ end → AreRuns same key day end stretches
-      → sum_by (λ stretch. sum_by (weight stretch.value) (range_with_len stretch.from (stretch.to - stretch.from))) stretches
+      → sum_by (λ stretch. sum_by (weight stretch.value)
+      (range_with_len stretch.from (stretch.to - stretch.from))) stretches
       ≡ sum_by (λ d. weight_of weight (key d) d) (range_with_len day count)
   sum-AreRuns day count end [] e are = sym (weightless day count (λ d low high. are d low (omega arith)))
   sum-AreRuns day count end (first ∷ later) e are =
       let all = λ (d : ℕ). weight_of weight (key d) d in
-      let own = λ (run : Stretch V). sum_by (weight run.value) (range_with_len run.from (run.to - run.from)) in
+      let own = λ (run : Stretch V). sum_by (weight run.value)
+      (range_with_len run.from (run.to - run.from)) in
       let begins = are.0.begins in
       let some_day = are.0.some_day in
       let ends = are.0.ends in
       let empty = first.from - day in
       let long = first.to - first.from in
       let left = end - first.to in
-      let before = sum_by-range-split all day first.from empty (end - first.from) count (omega arith) (omega arith) in
-      let after = sum_by-range-split all first.from first.to long left (end - first.from) (omega arith) (omega arith) in
+      let before = sum_by-range-split all day first.from empty (end - first.from) count (omega arith)
+      (omega arith) in
+      let after = sum_by-range-split all first.from first.to long left (end - first.from) (omega arith)
+      (omega arith) in
       let none = weightless day empty (λ d low high. are.1 d low (omega arith)) in
       let here = weighed day end long first are.0 (omega arith) in
       let rest = sum-AreRuns first.to left end later (omega arith) are.3 in
@@ -97,14 +112,17 @@ module _ {V : Type 0} (same : V → V → Bool) (key : ℕ → Option V) (weight
 -- the runs weigh over their days what all days weigh
 pub sum-runs : {V : Type 0} (same : V → V → Bool) → IsSame same → (key : ℕ → Option V) (weight : V → ℕ → ℕ)
     (day count : ℕ)
-    → sum_by (λ stretch. sum_by (weight stretch.value) (range_with_len stretch.from (stretch.to - stretch.from)))
+    → sum_by (λ stretch. sum_by (weight stretch.value)
+    (range_with_len stretch.from (stretch.to - stretch.from)))
     (runs same key day count)
     ≡ sum_by (λ d. weight_of weight (key d) d) (range_with_len day count)
 sum-runs same is key weight day count =
-    sum-AreRuns same key weight day count (day + count) (runs same key day count) refl (runs-are same is key day count)
+    sum-AreRuns same key weight day count (day + count) (runs same key day count) refl
+    (runs-are same is key day count)
 
 -- days 3, 5, 6 and 7 weigh 3, 5, 16 and 17
-days_weigh : sum_by (λ d. weight_of (λ value on. 10 * value + on) (if d == 4 then None else Some (d / 6)) d) (range_with_len 3 5)
+days_weigh : sum_by (λ d. weight_of (λ value on. 10 * value + on) (if d == 4 then None else Some (d / 6)) d)
+    (range_with_len 3 5)
     ≡ 41
 days_weigh = refl
 
@@ -122,12 +140,17 @@ sum_by-range-more f from count =
     sum_by-range-append f from count 1 ∙ ap (λ n. sum_by f (range_with_len from count) + n) last
 
 -- days that weigh nothing round some days add nothing to their sum
-pub sum_by-range-window : (f : ℕ → ℕ) (from total first count : ℕ) → from ≤ first → first + count ≤ from + total
+pub sum_by-range-window : (f : ℕ → ℕ) (from total first count : ℕ) → from ≤ first
+    → first + count ≤ from + total
     → ((d : ℕ) → from ≤ d → d < from + total → (d < first) ⊎ (first + count ≤ d) → f d ≡ 0)
     → sum_by f (range_with_len from total) ≡ sum_by f (range_with_len first count)
 sum_by-range-window f from total first count begins ends none =
-    let before = sum_by-range-none f from (first - from) (λ d low high. none d low (omega arith) (inl (omega arith))) in
-    let after = sum_by-range-none f (first + count) (from + total - (first + count)) (λ d low high. none d (omega arith) (omega arith) (inr low)) in
-    let front = sum_by-range-split f from first (first - from) (total - (first - from)) total (omega arith) (omega arith) in
-    let back = sum_by-range-split f first (first + count) count (from + total - (first + count)) (total - (first - from)) refl (omega arith) in
+    let before = sum_by-range-none f from (first - from)
+    (λ d low high. none d low (omega arith) (inl (omega arith))) in
+    let after = sum_by-range-none f (first + count) (from + total - (first + count))
+    (λ d low high. none d (omega arith) (omega arith) (inr low)) in
+    let front = sum_by-range-split f from first (first - from) (total - (first - from)) total (omega arith)
+    (omega arith) in
+    let back = sum_by-range-split f first (first + count) count (from + total - (first + count))
+    (total - (first - from)) refl (omega arith) in
     omega (arith, before, after, front, back)

@@ -1,20 +1,25 @@
 -- The runs of a key are its longest runs, and nothing else is.
-use Rattle.std.proofs.Common.{◌≡◌, ℕ, zero, suc, ◌+◌, ◌<◌, ◌≤◌, ◌⊎◌, inl, inr, ⊎_elim, Bool, true, false, ◌&&◌, ◌==◌, List, [], ◌∷◌, Option, Some, None, nat_eq, true≢false, refl, sym, ap, subst, arith}
-use Rattle.std.proofs.lemmas.Bool.{cond_both, cond-true, cond-false, and_parts, and_cases, and_from, and_left, and_right, eqb-true, eqb-false, eq-eqb, cases_Bool}
+use Rattle.std.proofs.Common.{◌≡◌, ℕ, zero, suc, ◌+◌, ◌<◌, ◌≤◌, ◌⊎◌, inl, inr, ⊎_elim, Bool, true, false}
+use Rattle.std.proofs.Common.{◌&&◌, ◌==◌, List, [], ◌∷◌, Option, Some, None, nat_eq, true≢false, refl, sym}
+use Rattle.std.proofs.Common.{ap, subst, arith}
+use Rattle.std.proofs.lemmas.Bool.{cond_both, cond-true, cond-false, and_parts, and_cases, and_from, and_left}
+use Rattle.std.proofs.lemmas.Bool.{and_right, eqb-true, eqb-false, eq-eqb, cases_Bool}
 use Rattle.std.proofs.lemmas.Option.{none-some}
 use Rattle.std.proofs.Math.Nat.{eq-or-lt_of_le}
 use Rattle.kb_base.specs.Runs.{Stretch, with_day, runs, IsSame, HasNone, IsStretch, IsOther, AreRuns}
 
 module _ {V : Type 0} (same : V → V → Bool) where
   -- a stretch that may be joined begins on the next day, with the same value
-  pub joined-parts : (value : V) (day : ℕ) (next : Stretch V) → ((next.from == day + 1) && same value next.value) ≡ true
+  pub joined-parts : (value : V) (day : ℕ) (next : Stretch V)
+      → ((next.from == day + 1) && same value next.value) ≡ true
       → (next.from ≡ day + 1) × (same value next.value ≡ true)
   joined-parts value day next joined =
       let parts = and_parts (next.from == day + 1) (same value next.value) joined in
       (eqb-true next.from (day + 1) parts.0, parts.1)
 
   -- a stretch that may not be joined, but begins on the next day, has another value
-  apart-value : (value : V) (day : ℕ) (next : Stretch V) → ((next.from == day + 1) && same value next.value) ≡ false
+  apart-value : (value : V) (day : ℕ) (next : Stretch V)
+      → ((next.from == day + 1) && same value next.value) ≡ false
       → day + 1 ≡ next.from → same value next.value ≡ false
   apart-value value day next apart beside =
       ⊎_elim (λ elsewhere. absurd (eqb-false next.from (day + 1) elsewhere (sym beside))) (λ other. other)
@@ -24,14 +29,16 @@ module _ {V : Type 0} (same : V → V → Bool) (key : ℕ → Option V) where
   -- a day without a value, before days without one
   HasNone-more : (day to : ℕ) → key day ≡ None → HasNone key (day + 1) to → HasNone key day to
   HasNone-more day to none later = λ on low high.
-      ⊎_elim (λ here. subst (λ d. key d ≡ None) here none) (λ more. later on (omega arith) high) (eq-or-lt_of_le low)
+      ⊎_elim (λ here. subst (λ d. key d ≡ None) here none) (λ more. later on (omega arith) high)
+      (eq-or-lt_of_le low)
 
   -- a day with a value, before days that have it too
   valued-more : (value : V) (day to : ℕ) → key day ≡ Some value
       → ((on : ℕ) → day + 1 ≤ on → on < to → key on ≡ Some value)
       → (on : ℕ) → day ≤ on → on < to → key on ≡ Some value
   valued-more value day to here later on low high =
-      ⊎_elim (λ begins. subst (λ d. key d ≡ Some value) begins here) (λ more. later on (omega arith) high) (eq-or-lt_of_le low)
+      ⊎_elim (λ begins. subst (λ d. key d ≡ Some value) begins here) (λ more. later on (omega arith) high)
+      (eq-or-lt_of_le low)
 
   -- the stretch of one day
   one_day : (value : V) (day end : ℕ) → day + 1 ≤ end → key day ≡ Some value
@@ -70,7 +77,8 @@ module _ {V : Type 0} (same : V → V → Bool) (key : ℕ → Option V) where
       (one_day value day end long here, λ on low high. absurd (omega arith), stops, are)
 
   -- the runs from a day on that lengthens the next one
-  AreRuns-join : (value : V) (day end : ℕ) (next : Stretch V) (later : List (Stretch V)) → key day ≡ Some value
+  AreRuns-join : (value : V) (day end : ℕ) (next : Stretch V) (later : List (Stretch V))
+      → key day ≡ Some value
       → next.from ≡ day + 1 → value ≡ next.value → AreRuns same key (day + 1) end (next ∷ later)
       → AreRuns same key day end (record { from = day; to = next.to; value = value } ∷ later)
   AreRuns-join value day end next later here beside e are = (
@@ -93,12 +101,14 @@ module _ {V : Type 0} (same : V → V → Bool) (key : ℕ → Option V) where
     where
       by_place : (day + 1 ≡ next.from) ⊎ (day + 1 < next.from) → IsOther same value (key (day + 1))
       by_place (inl beside) =
-          rw (is.valued (day + 1) (omega arith) (omega (arith, is.some_day))) (apart-value same value day next apart beside)
+          rw (is.valued (day + 1) (omega arith) (omega (arith, is.some_day)))
+          (apart-value same value day next apart beside)
       by_place (inr before) = rw (none (day + 1) (omega arith) before) tt
 
   -- the runs from a day on, where those from the next day on are runs
   with_day-are : IsSame same → (day end : ℕ) (found : Option V) (later : List (Stretch V)) → day + 1 ≤ end
-      → key day ≡ found → AreRuns same key (day + 1) end later → AreRuns same key day end (with_day same day found later)
+      → key day ≡ found → AreRuns same key (day + 1) end later
+      → AreRuns same key day end (with_day same day found later)
   with_day-are is day end None later long here are = AreRuns-none day end later here are
   with_day-are is day end (Some value) [] long here are =
       AreRuns-begin value day end [] long here (λ more. rw (are (day + 1) (omega arith) more) tt) are
@@ -129,11 +139,13 @@ module _ {V : Type 0} (same : V → V → Bool) (key : ℕ → Option V) where
   -- a stretch is told by its days and its value
   Stretch-same : (from to : ℕ) (stretch : Stretch V) → from ≡ stretch.from → to ≡ stretch.to
       → ◌≡◌ {A = Stretch V} (record { from = from; to = to; value = stretch.value }) stretch
-  Stretch-same from to stretch begins ends = λ i. record { from = begins i; to = ends i; value = stretch.value }
+  Stretch-same from to stretch begins ends =
+      λ i. record { from = begins i; to = ends i; value = stretch.value }
 
   -- a day whose run can't go on is not joined with the next stretch
   apart : (value : V) (day end : ℕ) (next : Stretch V) → IsStretch key (day + 1) end next
-      → (day + 1 < end → IsOther same value (key (day + 1))) → ((next.from == day + 1) && same value next.value) ≡ false
+      → (day + 1 < end → IsOther same value (key (day + 1)))
+      → ((next.from == day + 1) && same value next.value) ≡ false
   apart value day end next is stops = by_test (cases_Bool (next.from == day + 1))
     where
       by_test : (next.from == day + 1 ≡ true) ⊎ (next.from == day + 1 ≡ false)
@@ -191,14 +203,18 @@ module _ {V : Type 0} (same : V → V → Bool) (key : ℕ → Option V) where
       joins = and_from _ _ (eq-eqb (day + 1) (day + 1) refl) (is.complete first.value)
 
   -- runs whose first one begins with a day are that day before the runs from the next day on
-  with_day-first : IsSame same → (day end : ℕ) (first : Stretch V) (later : List (Stretch V)) → day ≡ first.from
+  with_day-first : IsSame same → (day end : ℕ) (first : Stretch V) (later : List (Stretch V))
+      → day ≡ first.from
       → AreRuns same key day end (first ∷ later)
-      → (rest : List (Stretch V)) × AreRuns same key (day + 1) end rest × (with_day same day (key day) rest ≡ first ∷ later)
+      → (rest : List (Stretch V)) × AreRuns same key (day + 1) end rest
+      × (with_day same day (key day) rest ≡ first ∷ later)
   with_day-first is day end first later begins are =
-      let here : key day ≡ Some first.value = are.0.valued day (omega arith) (omega (arith, are.0.some_day)) in
+      let here : key day ≡ Some first.value = are.0.valued day (omega arith)
+      (omega (arith, are.0.some_day)) in
       let long : day + 1 ≤ first.to = omega (arith, are.0.some_day) in
       (elim (eq-or-lt_of_le long) [
-        | inl ends ↦ let one = with_day-one day end first later begins ends are in (later, one.0, rw here one.1)
+        | inl ends ↦ let one =
+            with_day-one day end first later begins ends are in (later, one.0, rw here one.1)
         | inr more ↦
             let rest = with_day-more is day end first later begins (omega arith) are in
             (shorter day first ∷ later, rest.0, rw here rest.1)
@@ -207,7 +223,8 @@ module _ {V : Type 0} (same : V → V → Bool) (key : ℕ → Option V) where
   -- the longest runs are a day before the longest runs from the next day on
   with_day-only : IsSame same → (day end : ℕ) (stretches : List (Stretch V)) → day < end
       → AreRuns same key day end stretches
-      → (rest : List (Stretch V)) × AreRuns same key (day + 1) end rest × (with_day same day (key day) rest ≡ stretches)
+      → (rest : List (Stretch V)) × AreRuns same key (day + 1) end rest
+      × (with_day same day (key day) rest ≡ stretches)
   with_day-only is day end [] some are =
       ([], (λ on low high. are on (omega arith) high), rw (are day (omega arith) some) refl)
   with_day-only is day end (first ∷ later) some are =
@@ -215,7 +232,13 @@ module _ {V : Type 0} (same : V → V → Bool) (key : ℕ → Option V) where
         | inl here ↦ with_day-first is day end first later here are
         | inr after ↦ (
           first ∷ later,
-          (IsStretch-later day end first are.0 after, (λ on low high. are.1 on (omega arith) high), are.2, are.3),
+          (
+            IsStretch-later day end first are.0
+                after,
+            (λ on low high. are.1 on (omega arith) high),
+            are.2,
+            are.3,
+          ),
           rw (are.1 day (omega arith) after) refl,
         )
       ])
@@ -238,7 +261,8 @@ runs-are same is key day count = runs-are-to same key is day count (day + count)
 
 -- stretches that are the longest runs are the runs
 pub are-runs-only : {V : Type 0} (same : V → V → Bool) → IsSame same → (key : ℕ → Option V) (day count : ℕ)
-    (stretches : List (Stretch V)) → AreRuns same key day (day + count) stretches → runs same key day count ≡ stretches
+    (stretches : List (Stretch V)) → AreRuns same key day (day + count) stretches
+    → runs same key day count ≡ stretches
 are-runs-only same is key day count stretches are =
     are-runs-only-to same key is day count (day + count) stretches refl are
 

@@ -1,5 +1,6 @@
 -- Runs over other days: one more day, fewer days, days without a value, and another key.
-use Rattle.std.proofs.Common.{◌≡◌, ◌⊎◌, inl, inr, ℕ, zero, suc, ◌+◌, ◌-◌, ◌<◌, ◌≤◌, Bool, [], Option, None, refl, sym, ap, ap₂, ◌∙◌, arith}
+use Rattle.std.proofs.Common.{◌≡◌, ◌⊎◌, inl, inr, ℕ, zero, suc, ◌+◌, ◌-◌, ◌<◌, ◌≤◌, Bool, [], Option, None}
+use Rattle.std.proofs.Common.{refl, sym, ap, ap₂, ◌∙◌, arith}
 use Rattle.kb_base.specs.Runs.{with_day, runs}
 
 module _ {V : Type 0} (same : V → V → Bool) where
@@ -61,7 +62,8 @@ module _ {V : Type 0} (same : V → V → Bool) where
   runs-same-key key other day zero agree = runs-zero key day 0 refl ∙ sym (runs-zero other day 0 refl)
   runs-same-key key other day (suc count) agree =
       let here = agree day (omega arith) (omega arith) in
-      let later = runs-same-key key other (day + 1) count (λ d low high. agree d (omega arith) (omega arith)) in
+      let later = runs-same-key key other (day + 1) count
+      (λ d low high. agree d (omega arith) (omega arith)) in
       runs-more key day (day + 1) (suc count) count refl (omega arith)
       ∙ ap₂ (with_day same day) here later
       ∙ sym (runs-more other day (day + 1) (suc count) count refl (omega arith))
@@ -75,6 +77,8 @@ runs-window same key day total first count begins ends none =
     let split : total ≡ (first - day) + (count + (day + total - (first + count))) = omega arith in
     let at : day + (first - day) ≡ first = omega arith in
     ap (λ n. runs same key day n) split
-    ∙ runs-skip same key day (first - day) (count + (day + total - (first + count))) (λ d low high. none d low (omega arith) (inl (omega arith)))
+    ∙ runs-skip same key day (first - day) (count + (day + total - (first + count)))
+    (λ d low high. none d low (omega arith) (inl (omega arith)))
     ∙ ap (λ d. runs same key d (count + (day + total - (first + count)))) at
-    ∙ runs-stop same key first count (day + total - (first + count)) (λ d low high. none d (omega arith) (omega arith) (inr low))
+    ∙ runs-stop same key first count (day + total - (first + count))
+    (λ d low high. none d (omega arith) (omega arith) (inr low))

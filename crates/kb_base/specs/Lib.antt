@@ -4,3 +4,4 @@ pub mod Lines
 pub mod Machine
 pub mod Offenders
 pub mod Stream
+pub mod Private

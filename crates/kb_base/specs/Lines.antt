@@ -1,5 +1,6 @@
 -- Pieces of bytes, and lines.
-use Rattle.std.specs.Prelude.{ℕ, ◌≡◌, Bool, true, false, not, ◌==◌, nat_le, if◌then◌else◌, List, [], ◌∷◌, length, filter, codes, refl}
+use Rattle.std.specs.Prelude.{ℕ, ◌≡◌, Bool, true, false, not, ◌==◌, nat_le, if◌then◌else◌, List, [], ◌∷◌}
+use Rattle.std.specs.Prelude.{length, filter, codes, refl}
 
 -- the pieces with a byte put before the first of them
 abbrev pub onto_first : ℕ → List (List ℕ) → List (List ℕ)
@@ -30,9 +31,9 @@ abbrev pub lines_of : List (List ℕ) → List (List ℕ)
 lines_of pieces = filter is_line pieces
 
 -- the most bytes that a line may have
-abbrev pub longest_line : ℕ
-longest_line = 65536
+abbrev pub max_line : ℕ
+max_line = 65536
 
 -- a piece isn't too long
 abbrev pub is_short : List ℕ → Bool
-is_short piece = nat_le (length piece) longest_line
+is_short piece = nat_le (length piece) max_line

@@ -1,6 +1,8 @@
 -- Longest runs of a key over days. A key gives each day a value or none, and a run is a stretch of days,
 -- as long as can be, with one value.
-use Rattle.std.specs.Prelude.{ℕ, zero, suc, ◌+◌, ◌*◌, ◌≡◌, ◌<◌, ◌≤◌, ◌/◌, Bool, true, IsFalse, ◌&&◌, ◌==◌, nat_eq, nat_le, nat_lt, if◌then◌else◌, List, [], ◌∷◌, map, filter, Option, Some, None, refl}
+use Rattle.std.specs.Prelude.{ℕ, zero, suc, ◌+◌, ◌*◌, ◌≡◌, ◌<◌, ◌≤◌, ◌/◌, Bool, true, IsFalse, ◌&&◌, ◌==◌}
+use Rattle.std.specs.Prelude.{nat_eq, nat_le, nat_lt, if◌then◌else◌, List, [], ◌∷◌, map, filter, Option, Some}
+use Rattle.std.specs.Prelude.{None, refl}
 
 -- the days from one up to, but not including, another, and the value that they have
 pub record Stretch (V : Type 0) : Type 0 where
@@ -31,7 +33,14 @@ runs same key day zero = []
 runs same key day (suc count) = with_day same day (key day) (runs same key (day + 1) count)
 
 two_runs : runs nat_eq (λ day. if day == 4 then None else Some (day / 6)) 3 5
-    ≡ record { from = 3; to = 4; value = 0 } ∷ record { from = 5; to = 6; value = 0 } ∷ record { from = 6; to = 8; value = 1 } ∷ []
+    ≡ record {
+      from =
+          3;
+      to =
+          4;
+      value =
+          0;
+    } ∷ record { from = 5; to = 6; value = 0 } ∷ record { from = 6; to = 8; value = 1 } ∷ []
 unfolding runs
 two_runs = refl
 
@@ -56,7 +65,8 @@ abbrev pub IsOther : {V : Type 0} → (V → V → Bool) → V → Option V → 
 IsOther same value None = Unit {0}
 IsOther same value (Some found) = IsFalse (same value found)
 
--- these are a key's longest runs between two days: none before the first, which can't go on, and the rest likewise
+-- these are a key's longest runs between two days: none before the first, which can't go on, and the rest
+-- likewise
 abbrev pub AreRuns : {V : Type 0} → (V → V → Bool) → (ℕ → Option V) → ℕ → ℕ → List (Stretch V) → Type 0
 AreRuns same key day end [] = HasNone key day end
 AreRuns same key day end (stretch ∷ later) =

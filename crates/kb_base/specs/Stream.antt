@@ -1,8 +1,9 @@
--- A machine over the lines of a stream of bytes, which is read in pieces of any size, until it ends or a fault comes.
-use Rattle.std.specs.Prelude.{ℕ, ◌≡◌, ◌≤◌, ◌==◌, false, IsTrue, IsFalse, List, [], ◌∷◌, ◌++◌, length, take_while, Option, MatchBool}
+-- A machine over the lines of a stream of bytes, which is read in pieces of any size, until it ends or a
+-- fault comes.
+use Rattle.std.specs.Prelude.{ℕ, ◌≡◌, ◌⊎◌, IsTrue, IsFalse, List, [], ◌∷◌, ◌++◌, take_while, Option}
 use Rattle.std.specs.List.{list_all}
 use Rattle.std.specs.Io.KnownBytes.{Appends, Consumes}
-use Rattle.kb_base.specs.Lines.{pieces, lines_of, is_line, line_feed, is_short, longest_line}
+use Rattle.kb_base.specs.Lines.{pieces, lines_of, is_line, line_feed, is_short}
 use Rattle.kb_base.specs.Machine.{Machine, IsRun}
 
 -- the pieces that have ended: all but the last
@@ -32,65 +33,51 @@ abbrev pub HasOverlongLine : List ℕ → Type 0
 HasOverlongLine bytes = IsFalse (list_all is_short (pieces line_feed bytes))
 
 -- The whole input was read, and its lines are answered.
-pub record IsDone {S : Type 0} (step : Machine S) (first : S) (bytes text : List ℕ) (last : S) : Type 0 where
+pub record IsDone {S : Type 0} (machine : Machine S (List ℕ)) (first : S) (bytes text : List ℕ)
+    (last : S) : Type 0 where
   pub short : HasShortLines bytes
-  pub ran : IsRun step first (lines bytes) text last
+  pub ran : IsRun machine first (lines bytes) text last
 
 -- The reading broke off after these bytes, and the lines that had ended are answered.
-pub record IsBroken {S : Type 0} (step : Machine S) (first : S) (bytes text : List ℕ) (last : S) : Type 0 where
+pub record IsBroken {S : Type 0} (machine : Machine S (List ℕ)) (first : S) (bytes text : List ℕ)
+    (last : S) : Type 0 where
   pub short : HasShortLines bytes
-  pub ran : IsRun step first (ended_lines bytes) text last
+  pub ran : IsRun machine first (ended_lines bytes) text last
 
 -- A line is too long, and the lines before it are answered.
-pub record IsOverlong {S : Type 0} (step : Machine S) (first : S) (bytes text : List ℕ) (last : S) : Type 0 where
+pub record IsOverlong {S : Type 0} (machine : Machine S (List ℕ)) (first : S) (bytes text : List ℕ)
+    (last : S) : Type 0 where
   pub long : HasOverlongLine bytes
-  pub ran : IsRun step first (lines_before_overlong bytes) text last
+  pub ran : IsRun machine first (lines_before_overlong bytes) text last
 
--- The machine gave up before some line, and the lines before that one are answered.
-pub record IsGivenUp {S : Type 0} (step : Machine S) (first : S) (bytes text : List ℕ) (last : S) : Type 0 where
+-- a piece is a line that was begun and cut short: this is what was said of it, and the state that it left
+abbrev pub CutsPiece : {S : Type 0} → Machine S (List ℕ) → S → List ℕ → List ℕ → S → Type 0
+CutsPiece machine old piece said new = IsTrue (is_line piece) × machine.cut old piece said new
+
+-- so is the first of some pieces
+abbrev pub CutsFirst : {S : Type 0} → Machine S (List ℕ) → S → List (List ℕ) → List ℕ → S → Type 0
+CutsFirst machine old [] said new = ⊥
+CutsFirst machine old (piece ∷ later) said new = CutsPiece machine old piece said new
+
+-- The machine gave up before some line or in it. The lines before it are answered. Then nothing more was said
+-- and done, or that line was begun and cut short, and what was said of it ends the text.
+pub record IsGivenUp {S : Type 0} (machine : Machine S (List ℕ)) (first : S) (bytes text : List ℕ)
+    (last : S) : Type 0 where
   pub answered : List (List ℕ)
   pub unread : List (List ℕ)
   pub split : pieces line_feed bytes ≡ answered ++ unread
-  pub ran : IsRun step first (lines_of answered) text last
+  pub answers : List ℕ
+  pub middle : S
+  pub ran : IsRun machine first (lines_of answered) answers middle
+  pub said : List ℕ
+  pub written : text ≡ answers ++ said
+  pub left : ((said ≡ []) × (last ≡ middle)) ⊎ CutsFirst machine middle unread said last
 
 -- Some first lines were answered, and of their answers a first part was written.
-pub record IsCutOff {S : Type 0} (step : Machine S) (first : S) (bytes text : List ℕ) (last : S) : Type 0 where
+pub record IsCutOff {S : Type 0} (machine : Machine S (List ℕ)) (first : S) (bytes text : List ℕ)
+    (last : S) : Type 0 where
   pub unwritten : List ℕ
-  pub answers : IsGivenUp step first bytes (text ++ unwritten) last
-
--- In mid-stream: of the bytes seen so far these pieces have ended and their lines are answered; the last piece is pending.
-pub record IsAt {S : Type 0} (step : Machine S) (first : S) (seen : List ℕ) (state : S) (pending text : List ℕ) : Type 0 where
-  pub answered : List (List ℕ)
-  pub split : pieces line_feed seen ≡ answered ++ pending ∷ []
-  pub short : HasShortLines seen
-  pub ran : IsRun step first (lines_of answered) text state
-
--- From any state that was reached before, some bytes more are seen, and this text is added to the answers.
-abbrev pub Moves : {S : Type 0} → Machine S → S → List ℕ → List ℕ → S → List ℕ → List ℕ → Type 0
-Moves {S} step old_state old_pending bytes new_state new_pending added =
-    (first : S) (seen text : List ℕ) → IsAt step first seen old_state old_pending text
-    → IsAt step first (seen ++ bytes) new_state new_pending (text ++ added)
-
--- the pending piece has ended: a line is answered, and another piece is skipped
-abbrev pub EndsPiece : {S : Type 0} → Machine S → S → List ℕ → S → List ℕ → Type 0
-EndsPiece {S} step old piece new added = MatchBool (is_line piece) (step old piece added new) ((new ≡ old) × (added ≡ []))
-
--- Of some bytes the first ones are seen, which moves so far.
-pub record MovesUpTo {S : Type 0} (step : Machine S) (old : S) (old_pending bytes : List ℕ) (new : S) (new_pending added : List ℕ) : Type 0 where
-  pub front : List ℕ
-  pub rest : List ℕ
-  pub split : bytes ≡ front ++ rest
-  pub moved : Moves step old old_pending front new new_pending added
-
--- Of some bytes the first ones are seen, and the next one makes the pending line too long.
-pub record MovesToOverlong {S : Type 0} (step : Machine S) (old : S) (old_pending bytes : List ℕ) (new : S) (new_pending added : List ℕ) : Type 0 where
-  pub front : List ℕ
-  pub byte : ℕ
-  pub rest : List ℕ
-  pub split : bytes ≡ front ++ byte ∷ rest
-  pub full : longest_line ≤ length new_pending
-  pub other : (byte == line_feed) ≡ false
-  pub moved : Moves step old old_pending front new new_pending added
+  pub answers : IsGivenUp machine first bytes (text ++ unwritten) last
 
 -- Known bytes are read from a source, and of those that were read this holds.
 abbrev pub Reads : Option (List ℕ) → Option (List ℕ) → (List ℕ → Type 0) → Type 0

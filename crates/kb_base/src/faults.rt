@@ -56,25 +56,3 @@ impl FaultCount {
         self.count
     }
 }
-
-#[cfg(test)]
-mod tests {
-    use super::*;
-
-    #[test]
-    fn failed_calls_are_counted(rt: HostRuntime) {
-        let mut faults = FaultCount::new();
-        for count in 1..4 {
-            assert_eq!(rt; faults.fail(), Failed);
-            assert_eq!(rt; faults.number(), count);
-        }
-        let mut last = FaultCount { count: u64::MAX };
-        assert_eq!(rt; last.fail(), Failed);
-        assert_eq!(rt; last.number(), u64::MAX);
-        let three = faults;
-        faults.add(three);
-        assert_eq!(rt; faults.number(), 6);
-        faults.add(last);
-        assert_eq!(rt; faults.number(), u64::MAX);
-    }
-}

@@ -1,8 +1,8 @@
 //! Words that every other crate speaks: the two ways in which the outside lets a call down, and, for
-//! contracts alone, counts of faults, longest runs of days, pieces of bytes, and machines over lines.
+//! contracts alone, counts of faults, longest runs of days, pieces of bytes, and machines.
 //!
 //! The rule kept here: each of these is defined once, with its laws, and knows nothing of billing. The
-//! layers above hand in a key over days or a machine over lines, and cite the laws.
+//! layers above hand in a key over days or a machine over lines or requests, and cite the laws.
 #![tactic(auto)]
 
 mod fault;

@@ -74,25 +74,3 @@ impl<T> Seq<T> {
         Ok(self.items.push(item)?)
     }
 }
-
-#[cfg(test)]
-mod tests {
-    use super::*;
-    use std::test::Fail;
-
-    #[test]
-    fn members_stand_in_the_order_in_which_they_came(rt: HostRuntime) -> Result<(), Fail> {
-        let alloc = rt.alloc();
-        let mut seq = Seq::new(alloc);
-        assert!(rt; seq.is_empty());
-        seq.push(5u8)?;
-        seq.push(6)?;
-        seq.push(5)?;
-        assert!(rt; !seq.is_empty());
-        assert_eq!(rt; seq.len(), 3);
-        assert_eq!(rt; seq.as_slice(), [5u8, 6, 5].as_slice());
-        let members = seq.into_vec();
-        assert_eq!(rt; Seq::from_vec(members).as_slice(), [5u8, 6, 5].as_slice());
-        Ok(())
-    }
-}

@@ -18,20 +18,3 @@ where
     }
     Ok(copy)
 }
-
-#[cfg(test)]
-mod tests {
-    use super::*;
-    use std::test::Fail;
-
-    #[test]
-    fn members_are_the_same(rt: HostRuntime) -> Result<(), Fail> {
-        let alloc = rt.alloc();
-        let mut members = Vec::new(alloc);
-        members.push(Arc::new(alloc, 5u8)?)?;
-        members.push(Arc::new(alloc, 6)?)?;
-        let copy = shared(alloc, members.as_slice())?;
-        assert_eq!(rt; (copy.len(), *copy[0], *copy[1]), (2, 5, 6));
-        Ok(())
-    }
-}

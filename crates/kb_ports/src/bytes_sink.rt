@@ -96,31 +96,3 @@ impl Sink for BytesSink {
         Ok(bytes.len())
     }
 }
-
-#[cfg(test)]
-mod tests {
-    use super::*;
-    use std::test::Fail;
-
-    #[test]
-    fn the_second_call_fails(rt: HostRuntime) -> Result<(), Fail> {
-        let alloc = rt.alloc();
-        let mut sink = BytesSink::new(b"ab".to_vec(alloc)?, vec![in alloc; 2]?);
-        // what is written, what the call answers, all bytes then, and the faults by then
-        let cases = [
-            ("cd", Ok(2), "abcd", 0),
-            ("ef", Err(Failed), "abcd", 1),
-            ("efg", Ok(3), "abcdefg", 1),
-            ("", Ok(0), "abcdefg", 1),
-        ];
-        for (text, answer, bytes, faults) in cases {
-            assert_eq!(rt; sink.write(text.as_bytes()), answer, "after {text}");
-            assert_eq!(rt; sink.bytes(), bytes.as_bytes(), "after {text}");
-            assert_eq!(rt; sink.faults(), faults, "after {text}");
-        }
-        assert_eq!(rt; sink.calls(), 4);
-        let bytes = sink.into_bytes();
-        assert_eq!(rt; bytes.as_slice(), b"abcdefg".as_slice());
-        Ok(())
-    }
-}

@@ -10,6 +10,7 @@ mod bytes_sink;
 mod bytes_source;
 mod calls;
 mod sink;
+mod sips;
 mod source;
 mod writing;
 
@@ -17,5 +18,6 @@ pub use bytes_sink::BytesSink;
 pub use bytes_source::BytesSource;
 pub use kb_base::{Failed, NoMemory};
 pub use sink::Sink;
+pub use sips::Sips;
 pub use source::Source;
 pub use writing::write_all;
