@@ -1,7 +1,9 @@
 -- The months of examples are those of the calendar.
-use Rattle.std.proofs.Common.{◌≡◌, ℕ, ◌+◌, ◌-◌, ◌≤◌, refl, arith, min}
-use Rattle.kb_days.specs.Calendar.{month_in, mark, month_start, month_length}
-use Rattle.kb_days.specs.Dates.{AreDaysOf, january, february, march, april, may, june, december_2023, january_2020, february_2020, january_2025, february_2025, april_2025, february_2028}
+use Rattle.std.proofs.Common.{◌≡◌, ℕ, ◌+◌, refl, arith}
+use Rattle.kb_days.specs.Calendar.{month_in, month_start, month_length}
+use Rattle.kb_days.specs.Dates.{AreDaysOf, january, february, march, april, may, june, december_2023}
+use Rattle.kb_days.specs.Dates.{january_2020, february_2020, january_2025, february_2025, april_2025}
+use Rattle.kb_days.specs.Dates.{february_2028}
 
 -- the days of a month are those behind the last one of the month before it
 AreDaysOf-start : (month before : ℕ) → month_start month ≡ before + 1 → AreDaysOf month (λ day. before + day)

@@ -9,7 +9,13 @@ use Rattle.kb_days.proofs.Months.{month_start-rises, month_of-not_over, mark-beg
 -- a day that is some months after another comes after it
 pub add_months-later : (d n : ℕ) → 1 ≤ n → d < add_months d n
 add_months-later d n h =
-    omega (arith, month_of-not_over d, month_start-rises (month_of d + 1) (month_of d + n) (omega arith), mark-began (month_of d + n) (day_of_month d))
+    omega (
+      arith,
+      month_of-not_over d,
+      month_start-rises (month_of d + 1) (month_of d + n)
+          (omega arith),
+      mark-began (month_of d + n) (day_of_month d),
+    )
 
 -- what is counted in a span is counted at least once
 abbrev pub IsCounted : Span → Type 0

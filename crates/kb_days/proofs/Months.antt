@@ -1,5 +1,6 @@
 -- Months follow one another without a gap, and each day lies in exactly one of them.
-use Rattle.std.proofs.Common.{◌≡◌, ℕ, zero, suc, ◌+◌, ◌-◌, ◌*◌, ◌/◌, ◌%◌, ◌<◌, ◌≤◌, inl, inr, refl, arith, add-one, pos}
+use Rattle.std.proofs.Common.{◌≡◌, ℕ, zero, suc, ◌+◌, ◌-◌, ◌*◌, ◌/◌, ◌%◌, ◌<◌, ◌≤◌, inl, inr, refl, arith}
+use Rattle.std.proofs.Common.{add-one, pos}
 use Rattle.std.proofs.lemmas.Bool.{cases_lt, lt-ltb, le-ltb}
 use Rattle.jiff_core.proofs.CalendarLemmas.{days_in_month_bounds}
 use Rattle.kb_days.specs.Calendar.{month_length, month_start, mark, month_after, month_of, day_of_month}
@@ -43,12 +44,14 @@ month_start-order m n h =
     elim (cases_lt m n) [ inl here ↦ here | inr back ↦ absurd (omega (arith, month_start-rises n m back)) ]
 
 -- counting stops at a month that has the day
-month_after-now : (most month days : ℕ) → days < month_length month → month_after (suc most) month days ≡ month
+month_after-now : (most month days : ℕ) → days < month_length month
+    → month_after (suc most) month days ≡ month
 unfolding month_after
 month_after-now most month days h = rw (lt-ltb days (month_length month) h) refl
 
 -- and goes on past a month that ends before it
-month_after-later : (most month days : ℕ) → month_length month ≤ days → month_after (suc most) month days ≡ month_after most (month + 1) (days - month_length month)
+month_after-later : (most month days : ℕ) → month_length month ≤ days
+    → month_after (suc most) month days ≡ month_after most (month + 1) (days - month_length month)
 unfolding month_after
 month_after-later most month days h = rw (le-ltb days (month_length month) h) refl
 
@@ -58,16 +61,21 @@ unfolding month_after
 month_after-none month days = refl
 
 -- the month that is counted to has the day
-month_after-holds : (most month days : ℕ) → days ≤ most → (month_start (month_after most month days) ≤ month_start month + days) × (month_start month + days < month_start (month_after most month days + 1))
+month_after-holds : (most month days : ℕ) → days ≤ most
+    → (month_start (month_after most month days) ≤ month_start month + days)
+    × (month_start month + days < month_start (month_after most month days + 1))
 month_after-holds zero month days h =
-    rw (month_after-none month days) (omega arith, omega (arith, month_start-suc month, month_length-low month))
+    rw (month_after-none month days)
+    (omega arith, omega (arith, month_start-suc month, month_length-low month))
 month_after-holds (suc most) month days h =
     elim (cases_lt days (month_length month)) [
-      | inl here ↦ rw (month_after-now most month days here) (omega arith, omega (arith, month_start-suc month))
+      | inl here ↦ rw (month_after-now most month days here)
+          (omega arith, omega (arith, month_start-suc month))
       | inr over ↦
           let rest : days - month_length month ≤ most = omega (arith, month_length-low month) in
           let later = month_after-holds most (month + 1) (days - month_length month) rest in
-          rw (month_after-later most month days over) (omega (arith, later, month_start-suc month), omega (arith, later, month_start-suc month))
+          rw (month_after-later most month days over)
+          (omega (arith, later, month_start-suc month), omega (arith, later, month_start-suc month))
     ]
 
 -- the month of a day has the day
@@ -103,7 +111,8 @@ month_of-only d m began over =
 -- a later day lies in no earlier month
 pub month_of-rises : (d e : ℕ) → d ≤ e → month_of d ≤ month_of e
 month_of-rises d e h =
-    let order = month_start-order (month_of d) (month_of e + 1) (omega (arith, month_of-began d, month_of-not_over e)) in
+    let order = month_start-order (month_of d) (month_of e + 1)
+    (omega (arith, month_of-began d, month_of-not_over e)) in
     omega (arith, order)
 
 -- the first of a month is its start

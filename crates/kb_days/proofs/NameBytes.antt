@@ -16,4 +16,5 @@ is_name_byte-ascii b h = grind (arith, nat_tests)
 pub IsName-text : (bs : List ℕ) → IsName bs → IsUtf8 bs
 IsName-text bs h =
     let each = AllPass-from_list_all is_name_byte bs (and_parts _ _ h).1 in
-    IsUtf8-from_ascii bs (IsAscii-from_all bs (λ k d inside. is_name_byte-ascii (get_or bs k d) (each k d inside)))
+    IsUtf8-from_ascii bs
+    (IsAscii-from_all bs (λ k d inside. is_name_byte-ascii (get_or bs k d) (each k d inside)))

@@ -1,7 +1,9 @@
 -- The months of the days that may follow from a named one.
 use Rattle.std.proofs.Common.{◌≡◌, ℕ, ◌+◌, ◌<◌, ◌≤◌, refl, arith}
 use Rattle.kb_days.specs.Calendar.{first_reach, last_reach, month_length, month_start, mark, month_of}
-use Rattle.kb_days.proofs.Months.{month_start-rises, month_start-order, month_of-began, month_of-not_over, month_of-only, month_start-month_of, lt-month_start, mark-began, mark-not_over, mark-day_of_month, day_of_month-low, day_of_month-high}
+use Rattle.kb_days.proofs.Months.{month_start-rises, month_start-order, month_of-began, month_of-not_over}
+use Rattle.kb_days.proofs.Months.{month_of-only, month_start-month_of, lt-month_start, mark-began}
+use Rattle.kb_days.proofs.Months.{mark-not_over, mark-day_of_month, day_of_month-low, day_of_month-high}
 
 -- the first month that has a day which may follow
 may_1997 : month_start 328 ≡ 9982
@@ -50,4 +52,5 @@ pub mark-past : (m b : ℕ) → 1610 ≤ m → last_reach < mark m b
 mark-past m b h = omega (arith, march_2104, month_start-rises 1610 m h, mark-began m b)
 
 -- the month of a day and the day's number there
-pub ruleset months_of_days = (month_start-month_of, lt-month_start, month_of-only, month_of-first_reach, month_of-last_reach, mark-day_of_month, day_of_month-low, day_of_month-high)
+pub ruleset months_of_days =
+    (month_start-month_of, lt-month_start, month_of-only, month_of-first_reach, month_of-last_reach, mark-day_of_month, day_of_month-low, day_of_month-high)

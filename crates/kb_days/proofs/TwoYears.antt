@@ -1,5 +1,6 @@
 -- Two years have at most 731 days, also between cycle days that are cut to the end of February.
-use Rattle.std.proofs.Common.{◌≡◌, ℕ, ◌+◌, ◌-◌, ◌/◌, ◌%◌, ◌<◌, ◌≤◌, inl, inr, cond, nat_lt, refl, arith, ℤ, pos}
+use Rattle.std.proofs.Common.{◌≡◌, ℕ, ◌+◌, ◌-◌, ◌/◌, ◌%◌, ◌<◌, ◌≤◌, inl, inr, cond, nat_lt, refl, arith, ℤ}
+use Rattle.std.proofs.Common.{pos}
 use Rattle.std.proofs.lemmas.Bool.{cases_lt, lt-ltb, le-ltb}
 use Rattle.std.proofs.lemmas.Bool.Decides.{nat_tests}
 use Rattle.jiff_core.specs.Calendar.{days_in_month, day_count, days_of_months}
@@ -22,7 +23,8 @@ leap_day-none y h = grind (arith, nat_tests)
 leap_day-next : (y : ℕ) → leap_day (pos y) + leap_day (pos (y + 1)) ≤ 1
 leap_day-next y =
     elim (cases_lt 0 (y % 4)) [
-      | inl other ↦ let none = leap_day-none y other in let high = leap_day-high (pos (y + 1)) in omega (arith, none, high)
+      | inl other ↦ let none =
+          leap_day-none y other in let high = leap_day-high (pos (y + 1)) in omega (arith, none, high)
       | inr fourth ↦
           let none = leap_day-none (y + 1) (omega arith) in
           let high = leap_day-high (pos y) in
@@ -38,24 +40,30 @@ days_in_month-same : (y z : ℤ) (m : ℕ) → (m ≡ 2 → ⊥) → days_in_mon
 days_in_month-same y z m h = grind (arith, nat_tests)
 
 -- the days of a year's months before this one
-month_start-year : (m y : ℕ) → y ≡ 1970 + m / 12 → month_start m + 4_371_953 ≡ day_count (pos y) 1 1 + days_of_months (pos y) (m % 12)
+month_start-year : (m y : ℕ) → y ≡ 1970 + m / 12
+    → month_start m + 4_371_953 ≡ day_count (pos y) 1 1 + days_of_months (pos y) (m % 12)
 month_start-year m y e =
     let back : m % 12 + 1 - 1 ≡ m % 12 = omega arith in
     let placed = rw back at (day_count-day_of_year (pos y) (m % 12 + 1) 1 (omega arith)) in
-    let start : month_start m + 4_371_953 ≡ day_count (pos y) (m % 12 + 1) 1 = rw e (month_start-day_count m) in
+    let start : month_start m + 4_371_953 ≡ day_count (pos y) (m % 12 + 1) 1 = rw e
+    (month_start-day_count m) in
     omega (arith, placed, start)
 
 -- the year after the next begins 730 days and the leap days later
-day_count-two_years : (y : ℕ) → day_count (pos (y + 2)) 1 1 ≡ day_count (pos y) 1 1 + 730 + leap_day (pos y) + leap_day (pos (y + 1))
+day_count-two_years : (y : ℕ) → day_count (pos (y + 2)) 1 1 ≡ day_count (pos y) 1 1 + 730 + leap_day (pos y)
+    + leap_day (pos (y + 1))
 day_count-two_years y =
-    let first = day_count-next_year (pos y) (pos (y + 1)) (omega (arith, signed_arith)) (omega (arith, signed_arith)) in
-    let second = day_count-next_year (pos (y + 1)) (pos (y + 2)) (omega (arith, signed_arith)) (omega (arith, signed_arith)) in
+    let first = day_count-next_year (pos y) (pos (y + 1)) (omega (arith, signed_arith))
+    (omega (arith, signed_arith)) in
+    let second = day_count-next_year (pos (y + 1)) (pos (y + 2)) (omega (arith, signed_arith))
+    (omega (arith, signed_arith)) in
     omega (arith, first, second, days_in_year-leap_day (pos y), days_in_year-leap_day (pos (y + 1)))
 
 -- and so does a month, which counts a leap day that comes before it
 month_start-two_years : (m y : ℕ) → y ≡ 1970 + m / 12
     → month_start (m + 24) + cond (nat_lt 1 (m % 12)) (leap_day (pos y)) 0
-    ≡ month_start m + 730 + leap_day (pos y) + leap_day (pos (y + 1)) + cond (nat_lt 1 (m % 12)) (leap_day (pos (y + 2))) 0
+    ≡ month_start m + 730 + leap_day (pos y) + leap_day (pos (y + 1)) + cond (nat_lt 1 (m % 12))
+    (leap_day (pos (y + 2))) 0
 month_start-two_years m y e =
     let same : (m + 24) % 12 ≡ m % 12 = omega arith in
     let start = month_start-year m y e in
@@ -70,7 +78,8 @@ month_length-year : (m y : ℕ) → y ≡ 1970 + m / 12 → month_length m ≡ d
 unfolding month_length
 month_length-year m y e = rw e refl
 
-month_length-two_years : (m y : ℕ) → y ≡ 1970 + m / 12 → month_length (m + 24) ≡ days_in_month (pos (y + 2)) (m % 12 + 1)
+month_length-two_years : (m y : ℕ) → y ≡ 1970 + m / 12
+    → month_length (m + 24) ≡ days_in_month (pos (y + 2)) (m % 12 + 1)
 month_length-two_years m y e =
     let same : (m + 24) % 12 ≡ m % 12 = omega arith in
     rw same at (month_length-year (m + 24) (y + 2) (omega arith))
@@ -88,7 +97,8 @@ mark-two_years m bcd =
   where
     by_month : (y : ℕ)
         → month_start (m + 24) + cond (nat_lt 1 (m % 12)) (leap_day (pos y)) 0
-        ≡ month_start m + 730 + leap_day (pos y) + leap_day (pos (y + 1)) + cond (nat_lt 1 (m % 12)) (leap_day (pos (y + 2))) 0
+        ≡ month_start m + 730 + leap_day (pos y) + leap_day (pos (y + 1)) + cond (nat_lt 1 (m % 12))
+        (leap_day (pos (y + 2))) 0
         → month_length m ≡ days_in_month (pos y) (m % 12 + 1)
         → month_length (m + 24) ≡ days_in_month (pos (y + 2)) (m % 12 + 1)
         → leap_day (pos y) + leap_day (pos (y + 1)) ≤ 1 → leap_day (pos (y + 1)) + leap_day (pos (y + 2)) ≤ 1
@@ -109,7 +119,17 @@ mark-two_years m bcd =
                     let second : m % 12 + 1 ≡ 2 = omega arith in
                     let short = rw second at here in
                     let long = rw second at there in
-                    omega (arith, counted, short, long, days_in_month-february (pos y), days_in_month-february (pos (y + 2)), soon, late)
+                    omega (
+                      arith,
+                      counted,
+                      short,
+                      long,
+                      days_in_month-february (pos y),
+                      days_in_month-february
+                          (pos (y + 2)),
+                      soon,
+                      late,
+                    )
               ]
         ]
 

@@ -1,6 +1,8 @@
 -- The day that comes a span after another.
 use Rattle.std.specs.Prelude.{ℕ, ◌+◌, ◌*◌, ◌≡◌, nat_le, if◌then◌else◌, Option, Some, None, refl}
-use Rattle.kb_days.specs.Calendar.{last_reach, mark, month_of, day_of_month, month_after, month_start, month_length}
+use Rattle.kb_days.specs.Calendar.{last_reach, mark, month_of, day_of_month, month_after, month_start}
+use Rattle.kb_days.specs.Calendar.{month_length}
+use Rattle.kb_days.specs.Dates.{january, february, march, february_2025, february_2028}
 use Rattle.kb_days.specs.declared.span.Span.{Span}
 use Rattle.kb_days.specs.declared.span.Span.TheVariants.{Days, Weeks, Months, Years, Unlimited}
 
@@ -16,18 +18,18 @@ add_span day (Months count) = Some (add_months day count)
 add_span day (Years count) = Some (add_months day (12 * count))
 add_span day Unlimited = None
 
-two_weeks_from_10_march : add_span 19792 (Weeks 2) ≡ Some 19806
+two_weeks_from_10_march : add_span (march 10) (Weeks 2) ≡ Some (march 24)
 two_weeks_from_10_march = refl
 
-a_month_from_31_january : add_span 19753 (Months 1) ≡ Some 19782
+a_month_from_31_january : add_span (january 31) (Months 1) ≡ Some (february 29)
 unfolding day_of_month month_of month_after month_start month_length
 a_month_from_31_january = refl
 
-a_year_from_29_february : add_span 19782 (Years 1) ≡ Some 20147
+a_year_from_29_february : add_span (february 29) (Years 1) ≡ Some (february_2025 28)
 unfolding day_of_month month_of month_after month_start month_length
 a_year_from_29_february = refl
 
-four_years_from_29_february : add_span 19782 (Years 4) ≡ Some 21243
+four_years_from_29_february : add_span (february 29) (Years 4) ≡ Some (february_2028 29)
 unfolding day_of_month month_of month_after month_start month_length
 four_years_from_29_february = refl
 

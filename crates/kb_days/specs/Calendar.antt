@@ -1,5 +1,6 @@
 -- The civil calendar. Days are counted from 1970-01-01 and months from January 1970; the first of each is 0.
-use Rattle.std.specs.Prelude.{ℕ, zero, suc, ◌+◌, ◌-◌, ◌*◌, ◌/◌, ◌%◌, ◌≡◌, min, pos, nat_lt, if◌then◌else◌, refl}
+use Rattle.std.specs.Prelude.{ℕ, zero, suc, ◌+◌, ◌-◌, ◌*◌, ◌/◌, ◌%◌, ◌≡◌, min, pos, nat_lt, if◌then◌else◌}
+use Rattle.std.specs.Prelude.{refl}
 use Rattle.jiff_core.specs.Calendar.{days_in_month}
 
 -- 2000-01-01 and 2099-12-31: the days that a command may name
@@ -9,7 +10,8 @@ first_day = 10957
 abbrev pub last_day : ℕ
 last_day = 47481
 
--- 2102-01-31: the last day that may be charged, since a period that begins on a day that commands name is over by then
+-- 2102-01-31: the last day that may be charged, since a period that begins on a day that commands name is
+-- over by then
 abbrev pub last_charged : ℕ
 last_charged = 48242
 
@@ -42,7 +44,7 @@ march_of_2024 = refl
 unfoldable pub month_length : ℕ → ℕ
 month_length month = days_in_month (pos (1970 + month / 12)) (month % 12 + 1)
 
-february_of_a_leap_year : month_length 649 ≡ 29
+february_of_a_leap_year : month_length (month_in 2024 2) ≡ 29
 unfolding month_length
 february_of_a_leap_year = refl
 
@@ -51,7 +53,7 @@ unfoldable pub month_start : ℕ → ℕ
 month_start zero = 0
 month_start (suc month) = month_start month + month_length month
 
-march_2024 : month_start 650 ≡ 19783
+march_2024 : month_start (month_in 2024 3) ≡ 19783
 unfolding month_start month_length
 march_2024 = refl
 
@@ -59,7 +61,7 @@ march_2024 = refl
 abbrev pub mark : ℕ → ℕ → ℕ
 mark month number = month_start month + (min number (month_length month) - 1)
 
-the_31st_of_february : mark 649 31 ≡ 19782
+the_31st_of_february : mark (month_in 2024 2) 31 ≡ mark (month_in 2024 2) 29
 unfolding month_start month_length
 the_31st_of_february = refl
 
@@ -67,7 +69,8 @@ the_31st_of_february = refl
 unfoldable pub month_after : ℕ → ℕ → ℕ → ℕ
 month_after zero month days = month
 month_after (suc most) month days =
-    if nat_lt days (month_length month) then month else month_after most (month + 1) (days - month_length month)
+    if nat_lt days (month_length month) then month else month_after most (month + 1)
+    (days - month_length month)
 
 -- the month in which a day lies
 unfoldable pub month_of : ℕ → ℕ
@@ -77,6 +80,6 @@ month_of day = month_after day 0 day
 unfoldable pub day_of_month : ℕ → ℕ
 day_of_month day = day - month_start (month_of day) + 1
 
-the_10th_of_march : day_of_month 19792 ≡ 10
+the_10th_of_march : day_of_month (mark (month_in 2024 3) 10) ≡ 10
 unfolding day_of_month month_of month_after month_start month_length
 the_10th_of_march = refl

@@ -1,6 +1,9 @@
 -- The text of a day, YYYY-MM-DD.
-use Rattle.std.specs.Prelude.{ℕ, zero, suc, ◌+◌, ◌-◌, ◌*◌, ◌/◌, ◌%◌, ◌≡◌, Bool, ◌&&◌, nat_eq, nat_le, if◌then◌else◌, List, [], ◌∷◌, ◌++◌, take, drop, fold, codes, Option, Some, None, refl}
-use Rattle.kb_days.specs.Calendar.{first_day, last_day, month_start, month_of, day_of_month, month_after, month_length}
+use Rattle.std.specs.Prelude.{ℕ, zero, suc, ◌+◌, ◌-◌, ◌*◌, ◌/◌, ◌%◌, ◌≡◌, Bool, ◌&&◌, nat_eq, nat_le}
+use Rattle.std.specs.Prelude.{if◌then◌else◌, List, [], ◌∷◌, ◌++◌, take, drop, fold, codes, Option, Some, None}
+use Rattle.std.specs.Prelude.{refl}
+use Rattle.kb_days.specs.Calendar.{first_day, last_day, month_start, month_of, day_of_month, month_after}
+use Rattle.kb_days.specs.Calendar.{month_length}
 
 -- a number in so many decimal digits
 abbrev pub digits : ℕ → ℕ → List ℕ
@@ -26,7 +29,8 @@ number_of text = fold (λ number digit. 10 * number + (digit - 48)) 0 text
 -- the day that the digits of a text name
 unfoldable pub named_day : List ℕ → ℕ
 named_day text =
-    month_start (12 * (number_of (take 4 text) - 1970) + (number_of (take 2 (drop 5 text)) - 1)) + (number_of (take 2 (drop 8 text)) - 1)
+    month_start (12 * (number_of (take 4 text) - 1970) + (number_of (take 2 (drop 5 text)) - 1))
+    + (number_of (take 2 (drop 8 text)) - 1)
 
 -- two texts are the same
 abbrev pub same_text : List ℕ → List ℕ → Bool
@@ -38,5 +42,6 @@ same_text (a ∷ as_) (b ∷ bs) = nat_eq a b && same_text as_ bs
 -- the day of a text: the one that its digits name, if a command may name it and it has this text
 unfoldable pub read_day : List ℕ → Option ℕ
 read_day text =
-    if nat_le first_day (named_day text) && nat_le (named_day text) last_day && same_text (date_text (named_day text)) text
+    if nat_le first_day (named_day text) && nat_le (named_day text) last_day
+    && same_text (date_text (named_day text)) text
     then Some (named_day text) else None

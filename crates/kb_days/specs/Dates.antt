@@ -1,11 +1,13 @@
 -- The dates of examples: a month is a function of the day in it, and march 10 is 2024-03-10.
 use Rattle.std.specs.Prelude.{ℕ, ◌+◌, ◌≡◌, ◌≤◌, codes, refl}
-use Rattle.kb_days.specs.Calendar.{month_in, mark, month_start, month_length, month_after, month_of, day_of_month}
+use Rattle.kb_days.specs.Calendar.{mark, month_start, month_length, month_after, month_of}
+use Rattle.kb_days.specs.Calendar.{day_of_month}
 use Rattle.kb_days.specs.DateText.{date_text, civil_text}
 
 -- a function gives the days of a month by their numbers, up to its last one
 abbrev pub AreDaysOf : ℕ → (ℕ → ℕ) → Type 0
-AreDaysOf month days = (number : ℕ) → 1 ≤ number → number ≤ month_length month → days number ≡ mark month number
+AreDaysOf month days =
+    (number : ℕ) → 1 ≤ number → number ≤ month_length month → days number ≡ mark month number
 
 -- the months of 2024
 abbrev pub january : ℕ → ℕ

@@ -1,5 +1,6 @@
 -- Names: short words of letters, digits and three marks, as lists of ASCII bytes.
-use Rattle.std.specs.Prelude.{ℕ, Bool, ◌≡◌, ◌&&◌, ◌||◌, ◌==◌, nat_lt, nat_le, IsTrue, List, length, codes, refl, true, false, replicate}
+use Rattle.std.specs.Prelude.{ℕ, Bool, ◌≡◌, ◌&&◌, ◌||◌, ◌==◌, nat_lt, nat_le, IsTrue, List, length, codes}
+use Rattle.std.specs.Prelude.{refl, true, false, replicate}
 use Rattle.std.specs.Char.{is_ascii_alphanumeric}
 use Rattle.std.specs.List.{list_all}
 

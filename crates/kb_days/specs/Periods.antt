@@ -1,7 +1,9 @@
 -- Billing periods: how long each is, and its word.
 use Rattle.std.specs.Prelude.{ℕ, ◌≡◌, List, codes, Option, Some, None, refl}
 use Rattle.kb_days.specs.declared.period.Period.{Period}
-use Rattle.kb_days.specs.declared.period.Period.TheVariants.{Daily, Weekly, Biweekly, ThirtyDays, Monthly, Quarterly, Biannual, Annual, Biennial, NoBillingPeriod}
+use Rattle.kb_days.specs.declared.period.Period.TheVariants.{Daily, Weekly, Biweekly, ThirtyDays, Monthly}
+use Rattle.kb_days.specs.declared.period.Period.TheVariants.{Quarterly, Biannual, Annual, Biennial}
+use Rattle.kb_days.specs.declared.period.Period.TheVariants.{NoBillingPeriod}
 
 -- how many days a period has, if it is counted in days
 abbrev pub period_days : Period → Option ℕ

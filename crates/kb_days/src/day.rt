@@ -74,7 +74,7 @@ impl Day {
 
 /// A day that may follow from a named one, such as the end of a period: a number of days from 1970-01-01, from
 /// `FIRST_REACH` to `LAST_REACH`.
-#[derive(Clone, Copy, Debug, PartialEq, Eq, Hash, PartialOrd, Ord)]
+#[derive(Clone, Copy, Debug, PartialEq, Eq, PartialOrd)]
 pub struct Reach {
     number: u32,
 }
@@ -122,7 +122,7 @@ impl Reach {
 }
 
 /// A billing cycle day: the number of a day in its month, 1 to 31.
-#[derive(Clone, Copy, Debug, PartialEq, Eq, Hash, PartialOrd, Ord)]
+#[derive(Clone, Copy, Debug, PartialEq, Eq)]
 pub struct Bcd {
     number: u32,
 }
@@ -166,41 +166,5 @@ impl Bcd {
         ensures last { result ≤ 31 }
     {
         self.number
-    }
-}
-
-#[cfg(test)]
-mod tests {
-    use super::*;
-    use std::test::Fail;
-
-    #[test]
-    fn numbers_at_the_ends_of_each_range(rt: HostRuntime) -> Result<(), Fail> {
-        // number, and whether it is one of a day, of a reach and of a cycle day
-        let cases = [
-            (0, false, false, false),
-            (1, false, false, true),
-            (31, false, false, true),
-            (32, false, false, false),
-            (9_999, false, false, false),
-            (10_000, false, true, false),
-            (10_956, false, true, false),
-            (10_957, true, true, false),
-            (47_481, true, true, false),
-            (47_482, false, true, false),
-            (49_000, false, true, false),
-            (49_001, false, false, false),
-            (u32::MAX, false, false, false),
-        ];
-        for (number, is_day, is_reach, is_bcd) in cases {
-            assert_eq!(rt; Day::new(number).is_some(), is_day, "day {number}");
-            assert_eq!(rt; Reach::new(number).is_some(), is_reach, "reach {number}");
-            assert_eq!(rt; Bcd::new(number).is_some(), is_bcd, "cycle day {number}");
-        }
-        let day = Day::new(19_792).ok_or("a day")?;
-        assert_eq!(rt; day.number(), 19_792);
-        assert_eq!(rt; day.reach().number(), 19_792);
-        assert_eq!(rt; Bcd::new(31).ok_or("a cycle day")?.number(), 31);
-        Ok(())
     }
 }

@@ -16,7 +16,7 @@ ghost use Rattle.kb_days.specs.Periods.{period_days, period_months, period_word}
 /// | `Annual` | ANNUAL | 12 months |
 /// | `Biennial` | BIENNIAL | 24 months |
 /// | `NoBillingPeriod` | NO_BILLING_PERIOD | none |
-#[derive(Clone, Copy, Debug, PartialEq, Eq, Hash, PartialOrd, Ord)]
+#[derive(Clone, Copy, Debug, PartialEq, Eq)]
 pub enum Period {
     Daily,
     Weekly,
@@ -73,33 +73,6 @@ impl Period {
             Period::Annual => b"ANNUAL",
             Period::Biennial => b"BIENNIAL",
             Period::NoBillingPeriod => b"NO_BILLING_PERIOD",
-        }
-    }
-}
-
-#[cfg(test)]
-mod tests {
-    use super::*;
-
-    #[test]
-    fn lengths_and_words(rt: HostRuntime) {
-        // days, months, word
-        let cases = [
-            (Period::Daily, Some(1), None, "DAILY"),
-            (Period::Weekly, Some(7), None, "WEEKLY"),
-            (Period::Biweekly, Some(14), None, "BIWEEKLY"),
-            (Period::ThirtyDays, Some(30), None, "THIRTY_DAYS"),
-            (Period::Monthly, None, Some(1), "MONTHLY"),
-            (Period::Quarterly, None, Some(3), "QUARTERLY"),
-            (Period::Biannual, None, Some(6), "BIANNUAL"),
-            (Period::Annual, None, Some(12), "ANNUAL"),
-            (Period::Biennial, None, Some(24), "BIENNIAL"),
-            (Period::NoBillingPeriod, None, None, "NO_BILLING_PERIOD"),
-        ];
-        for (period, days, months, word) in cases {
-            assert_eq!(rt; period.days(), days, "days of {word}");
-            assert_eq!(rt; period.months(), months, "months of {word}");
-            assert_eq!(rt; period.word(), word.as_bytes(), "{word}");
         }
     }
 }

@@ -16,4 +16,5 @@ is_capital-ascii b h = grind (arith, nat_tests)
 pub code_text : (letters : List ℕ) → IsCurrency letters → IsUtf8 letters
 code_text letters code =
     let each = AllPass-from_list_all is_capital letters (and_parts _ _ code).1 in
-    IsUtf8-from_ascii letters (IsAscii-from_all letters (λ k d inside. is_capital-ascii (get_or letters k d) (each k d inside)))
+    IsUtf8-from_ascii letters
+    (IsAscii-from_all letters (λ k d inside. is_capital-ascii (get_or letters k d) (each k d inside)))

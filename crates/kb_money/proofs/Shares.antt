@@ -12,14 +12,16 @@ quotient-grows low high divisor some h =
     le-div (low / divisor) high divisor some (omega (arith, div-mul-le_self low divisor))
 
 -- the running total never falls
-pub cum-grows : (price days count more : ℕ) → 0 < days → count ≤ more → cum price days count ≤ cum price days more
+pub cum-grows : (price days count more : ℕ) → 0 < days → count ≤ more
+    → cum price days count ≤ cum price days more
 cum-grows price days count more some h =
     let product : 2 * price * count ≤ 2 * price * more = mul-le-mul_left (2 * price) h in
     quotient-grows (2 * price * count + days) (2 * price * more + days) (2 * days) (omega arith) (omega arith)
 
 -- before the first day nothing is due
 pub cum-none : (price days : ℕ) → 0 < days → cum price days 0 ≡ 0
-cum-none price days some = omega (arith, div_below (2 * price * 0 + days) (2 * days) 1 (omega arith) (omega arith))
+cum-none price days some =
+    omega (arith, div_below (2 * price * 0 + days) (2 * days) 1 (omega arith) (omega arith))
 
 -- all days of a period cost its price
 pub cum-all : (price days : ℕ) → 0 < days → cum price days days ≡ price
@@ -29,11 +31,13 @@ cum-all price days some =
 
 -- days of a period never cost more than its price
 pub cum-le-price : (price days count : ℕ) → 0 < days → count ≤ days → cum price days count ≤ price
-cum-le-price price days count some h = omega (arith, cum-grows price days count days some h, cum-all price days some)
+cum-le-price price days count some h =
+    omega (arith, cum-grows price days count days some h, cum-all price days some)
 
 -- the shares of neighbouring days add up to what the running total rises over them
 sum-shares : (price days from count : ℕ) → 0 < days
-    → sum_by (share price days) (range_with_len from count) + cum price days from ≡ cum price days (from + count)
+    → sum_by (share price days) (range_with_len from count) + cum price days from ≡ cum price days
+    (from + count)
 sum-shares price days from zero some = grind arith
 sum-shares price days from (suc count) some =
     let later = sum-shares price days (from + 1) count some in
@@ -61,14 +65,10 @@ cost-join price days from middle to some first second =
     omega arith
 
 -- days of a period cost at most its price
-pub cost-le-price : (price days from to : ℕ) → 0 < days → from ≤ to → to ≤ days → cost price days from to ≤ price
+pub cost-le-price : (price days from to : ℕ) → 0 < days → from ≤ to → to ≤ days
+    → cost price days from to ≤ price
 cost-le-price price days from to some order inside =
     omega (arith, cost-cum price days from to some order, cum-le-price price days to some inside)
-
--- all days of a period cost its price
-pub cost-all : (price days : ℕ) → 0 < days → cost price days 0 days ≡ price
-cost-all price days some =
-    omega (arith, cost-cum price days 0 days some (omega arith), cum-none price days some, cum-all price days some)
 
 -- the shares of calendar days are those of their offsets from the day on which the period begins
 sum-offsets : (price days start from count : ℕ) → start ≤ from

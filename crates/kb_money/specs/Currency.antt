@@ -1,5 +1,6 @@
 -- The codes of currencies.
-use Rattle.std.specs.Prelude.{ℕ, Bool, true, false, ◌≡◌, ◌&&◌, ◌==◌, nat_le, IsTrue, List, length, codes, refl}
+use Rattle.std.specs.Prelude.{ℕ, Bool, true, false, ◌≡◌, ◌&&◌, ◌==◌, nat_le, IsTrue, List, length, codes}
+use Rattle.std.specs.Prelude.{refl}
 use Rattle.std.specs.List.{list_all}
 
 -- a capital, from A to Z

@@ -8,7 +8,7 @@ use std::marker::Model;
 pub const MAX_MINOR: u64 = 1_000_000_000;
 
 /// A price in minor units, such as cents: 0 to 10^9.
-#[derive(Clone, Copy, Debug, PartialEq, Eq, Hash, PartialOrd, Ord)]
+#[derive(Clone, Copy, Debug, PartialEq, Eq)]
 pub struct Minor {
     units: u64,
 }
@@ -42,22 +42,5 @@ impl Minor {
         ensures bound { result ≤ MAX_MINOR }
     {
         self.units
-    }
-}
-
-#[cfg(test)]
-mod tests {
-    use super::*;
-    use std::test::Fail;
-
-    #[test]
-    fn ends_of_a_price(rt: HostRuntime) -> Result<(), Fail> {
-        for units in [0, 1, 1_000_000_000] {
-            assert_eq!(rt; Minor::new(units).ok_or("a price")?.units(), units);
-        }
-        for units in [1_000_000_001, u64::MAX] {
-            assert_eq!(rt; Minor::new(units), None, "{units}");
-        }
-        Ok(())
     }
 }

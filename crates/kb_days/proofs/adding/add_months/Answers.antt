@@ -9,7 +9,8 @@ use Rattle.kb_days.proofs.adding.add_months.Goals.{After-new}
 
 pub returns-then-month-gt1609-clause-value : goal.returns-then-month-gt1609-clause-value
 returns-then-month-gt1609-clause-value c =
-    sym (reached-past (add_months c.args.day c.args.months) (mark-past (month_of c.args.day + c.args.months) (day_of_month c.args.day) (omega arith)))
+    sym (reached-past (add_months c.args.day c.args.months)
+    (mark-past (month_of c.args.day + c.args.months) (day_of_month c.args.day) (omega arith)))
 
 -- the day in that month
 day_is : (c : After-new) → c.kept_number.result ≡ add_months c.args.day c.args.months
@@ -17,7 +18,8 @@ day_is c = rw (c.kept_number.ensures, c.month_of.ensures.value) refl
 
 pub returns-clause-value : goal.returns-clause-value
 returns-clause-value c =
-    let first : first_reach ≤ add_months c.args.day c.args.months = mark-first_reach (month_of c.args.day + c.args.months) (day_of_month c.args.day) (omega arith) in
+    let first : first_reach ≤ add_months c.args.day c.args.months = mark-first_reach
+    (month_of c.args.day + c.args.months) (day_of_month c.args.day) (omega arith) in
     let low = rw (← day_is c) at first in
     rw (← day_is c) (grind (arith, common_steps))
 

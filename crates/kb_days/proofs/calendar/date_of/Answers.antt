@@ -11,10 +11,16 @@ same_day : (c : After-from_days_since_min) → epoch_day c.from_days_since_min.r
 same_day c = omega (arith, signed_arith)
 
 pub returns-clause-year : goal.returns-clause-year
-returns-clause-year c = let date = c.from_days_since_min.result in year-civil date.year date.month date.day c.args.day (civil date) (same_day c)
+returns-clause-year c =
+    let date = c.from_days_since_min.result in year-civil date.year date.month date.day c.args.day
+    (civil date) (same_day c)
 
 pub returns-clause-month : goal.returns-clause-month
-returns-clause-month c = let date = c.from_days_since_min.result in month-civil date.year date.month date.day c.args.day (civil date) (same_day c)
+returns-clause-month c =
+    let date = c.from_days_since_min.result in month-civil date.year date.month date.day c.args.day
+    (civil date) (same_day c)
 
 pub returns-clause-day : goal.returns-clause-day
-returns-clause-day c = let date = c.from_days_since_min.result in day_of_month-civil date.year date.month date.day c.args.day (civil date) (same_day c)
+returns-clause-day c =
+    let date = c.from_days_since_min.result in day_of_month-civil date.year date.month date.day c.args.day
+    (civil date) (same_day c)

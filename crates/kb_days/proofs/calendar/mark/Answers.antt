@@ -4,7 +4,8 @@ use Rattle.kb_days.proofs.Reaches.{mark-first_reach, mark-last_reach}
 use Rattle.kb_days.proofs.calendar.mark.Goals as goal
 
 pub within-requires-clause-first : goal.within-requires-clause-first
-within-requires-clause-first c = omega (arith, mark-first_reach c.args.month c.args.bcd c.requires.from_1997_06)
+within-requires-clause-first c =
+    omega (arith, mark-first_reach c.args.month c.args.bcd c.requires.from_1997_06)
 
 pub within-requires-clause-last : goal.within-requires-clause-last
 within-requires-clause-last c = omega (arith, mark-last_reach c.args.month c.args.bcd c.requires.to_2104_01)

@@ -1,8 +1,11 @@
 use Rattle.std.proofs.Common.{arith}
 use Rattle.std.proofs.lemmas.Option.{none-some}
-use Rattle.kb_days.proofs.CivilTexts.{length-civil_text, first_dash-civil_text, second_dash-civil_text, year-civil_text, month-civil_text, day-civil_text, civil_text-made}
+use Rattle.kb_days.proofs.CivilTexts.{length-civil_text, first_dash-civil_text, second_dash-civil_text}
+use Rattle.kb_days.proofs.CivilTexts.{year-civil_text, month-civil_text, day-civil_text, civil_text-made}
 use Rattle.kb_days.proofs.date_text.read_parts.Goals as goal
-use Rattle.kb_days.proofs.date_text.read_parts.Goals.{then-text-ne10-via-then-text-ne10, then-text-ne10-via-else-text-ne10+then-text-ne45, then-text-ne10-via-else-text-ne10+else-text-ne45+then-text-ne45-2}
+use Rattle.kb_days.proofs.date_text.read_parts.Goals.{then-text-ne10-via-then-text-ne10}
+use Rattle.kb_days.proofs.date_text.read_parts.Goals.{then-text-ne10-via-else-text-ne10+then-text-ne45}
+use Rattle.kb_days.proofs.date_text.read_parts.Goals.{then-text-ne10-via-else-text-ne10+else-text-ne45+then-text-ne45-2}
 
 pub returns-then-text-ne10-clause-all : goal.returns-then-text-ne10-clause-all
 returns-then-text-ne10-clause-all c y m d hy hm hd e =
@@ -32,11 +35,18 @@ returns-in_err-day-clause-all c y m d hy hm hd e =
 
 pub returns-clause-text : goal.returns-clause-text
 returns-clause-text c =
-    civil_text-made c.args.text.now c.in_ok-year.year c.in_ok-month.month c.in_ok-day.day (omega arith) (omega arith) (omega arith) c.in_ok-year.ensures.digits c.in_ok-month.ensures.digits c.in_ok-day.ensures.digits
+    civil_text-made c.args.text.now c.in_ok-year.year c.in_ok-month.month c.in_ok-day.day (omega arith)
+    (omega arith) (omega arith) c.in_ok-year.ensures.digits c.in_ok-month.ensures.digits
+    c.in_ok-day.ensures.digits
 
 pub returns-clause-all : goal.returns-clause-all
 returns-clause-all c y m d hy hm hd e =
     let year = year-civil_text c.args.text.now y m d hy e in
     let month = month-civil_text c.args.text.now y m d hm e in
     let day = day-civil_text c.args.text.now y m d hd e in
-    cc (c.in_ok-year.ensures.all y year.0 year.1, c.in_ok-month.ensures.all m month.0 month.1, c.in_ok-day.ensures.all d day.0 day.1)
+    cc (
+      c.in_ok-year.ensures.all y year.0 year.1,
+      c.in_ok-month.ensures.all m month.0
+          month.1,
+      c.in_ok-day.ensures.all d day.0 day.1,
+    )
