@@ -4,7 +4,8 @@ use Rattle.std.proofs.Common.{Option, Some, None, refl, ap, arith}
 use Rattle.std.proofs.lemmas.Bool.{leb-true, le-leb}
 use Rattle.std.proofs.lemmas.Bool.Decides.{nat_tests}
 use Rattle.kb_days.proofs.Months.{month_of-began, month_of-not_over}
-use Rattle.kb_due.specs.FirstDue.{first_due, is_live, month_cell, period_start, period_end, last_cell_day}
+use Rattle.kb_days.specs.Calendar.{last_charged}
+use Rattle.kb_due.specs.FirstDue.{first_due, is_live, month_cell, period_start, period_end}
 use Rattle.kb_due.specs.declared.first.FirstCell.{FirstCell}
 use Rattle.kb_due.proofs.Periods.{period_end-high, period_start-after}
 
@@ -13,11 +14,12 @@ record IsDue (start : ℕ) (cancel : Option ℕ) (billed day : ℕ) (cell : Firs
   live : is_live start cancel day ≡ true
   started : start ≤ billed
   period_started : period_start day ≤ billed
-  in_reach : day ≤ last_cell_day
+  in_reach : day ≤ last_charged
   cell_is : cell ≡ month_cell day
 
 -- of a choice by four tests something is left only where each holds
-chosen : (a b c d : Bool) (cell found : FirstCell) → (if a && b && c && d then Some cell else None) ≡ Some found
+chosen : (a b c d : Bool) (cell found : FirstCell)
+    → (if a && b && c && d then Some cell else None) ≡ Some found
     → (a ≡ true) × (b ≡ true) × (c ≡ true) × (d ≡ true) × (found ≡ cell)
 chosen true true true true cell found e = (refl, refl, refl, refl, cc)
 chosen true true true false cell found e = absurd (cc)
@@ -31,24 +33,25 @@ due : (start : ℕ) (cancel : Option ℕ) (billed day : ℕ) (cell : FirstCell)
 unfolding first_due
 due start cancel billed day cell e =
     let begun = nat_le (period_start day) billed in
-    let tests = chosen (is_live start cancel day) (nat_le start billed) begun (nat_le day last_cell_day) (month_cell day) cell e in
+    let tests = chosen (is_live start cancel day) (nat_le start billed) begun (nat_le day last_charged)
+    (month_cell day) cell e in
     record {
       live = tests.0;
       started = leb-true start billed tests.1;
       period_started = leb-true (period_start day) billed tests.2;
-      in_reach = leb-true day last_cell_day tests.3;
+      in_reach = leb-true day last_charged tests.3;
       cell_is = tests.4;
     }
 
 -- where the day is due its cell stands
 pub first_due-some : (start : ℕ) (cancel : Option ℕ) (billed day : ℕ)
-    → is_live start cancel day ≡ true → start ≤ billed → period_start day ≤ billed → day ≤ last_cell_day
+    → is_live start cancel day ≡ true → start ≤ billed → period_start day ≤ billed → day ≤ last_charged
     → first_due start cancel billed day ≡ Some (month_cell day)
 unfolding first_due
 first_due-some start cancel billed day live started begun in_reach =
     let start_test = le-leb start billed started in
     let period_test = le-leb (period_start day) billed begun in
-    rw (live, start_test, period_test, le-leb day last_cell_day in_reach) refl
+    rw (live, start_test, period_test, le-leb day last_charged in_reach) refl
 
 -- a due cell is the period of its day, at the plan's price
 pub first_due-cell : (start : ℕ) (cancel : Option ℕ) (billed day : ℕ) (cell : FirstCell)
