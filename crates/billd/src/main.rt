@@ -1,26 +1,12 @@
 //! `billd`: subscription billing.
 //!
-//! The program is the top call `billd` over the process's own words and streams. What it promises stands
-//! in that call's clauses: the bytes written are the answers of the machine to the lines read, and after
-//! each line each day has exactly the charge that is due. `first` is the machine, `reading` runs it over a
-//! stream, `adapter` has the streams of the process.
+//! The program is the top call of the library `kb_billd` over the process's own words and streams, and promises what
+//! that call's clauses say.
 #![tactic(auto)]
 
-mod adapter;
-mod first;
-mod reading;
-mod stop;
-mod top;
-
-pub use adapter::{StdSink, StdSource};
-pub use first::{Dates, FirstBook, FirstCommand, FirstItem, apply_first};
-pub use reading::{LineMachine, run_lines};
+use kb_billd::{StdSink, StdSource, Stop, billd, close, status_of};
 use std::process::ExitCode;
 use std::{env, io};
-pub use stop::Stop;
-use stop::status_of;
-pub use top::billd;
-use top::close;
 
 fn main(rt: HostRuntime) -> ExitCode {
     let mut input = StdSource::new(rt.stdin());

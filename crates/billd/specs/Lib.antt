@@ -1,7 +1,0 @@
-pub mod FirstBook
-pub mod FirstCommand
-pub mod FirstStep
-pub mod Items
-pub mod Reading
-pub mod Stop
-pub mod TopCall

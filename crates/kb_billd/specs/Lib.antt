@@ -1,0 +1,8 @@
+pub mod FirstBook
+pub mod FirstCommand
+pub mod FirstItems
+pub mod FirstStep
+pub mod Private
+pub mod Reading
+pub mod Stop
+pub mod TopCall
