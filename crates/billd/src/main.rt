@@ -1,7 +1,7 @@
 //! `billd`: subscription billing.
 //!
-//! The program is the top call of the library `kb_billd` over the process's own words and streams, and promises what
-//! that call's clauses say.
+//! The program is the top call of the library `kb_billd` over the process's own words and streams, and
+//! promises what that call's clauses say.
 #![tactic(auto)]
 
 use kb_billd::{StdSink, StdSource, Stop, billd, close, status_of};

@@ -52,5 +52,13 @@ pub mark-past : (m b : ℕ) → 1610 ≤ m → last_reach < mark m b
 mark-past m b h = omega (arith, march_2104, month_start-rises 1610 m h, mark-began m b)
 
 -- the month of a day and the day's number there
-pub ruleset months_of_days =
-    (month_start-month_of, lt-month_start, month_of-only, month_of-first_reach, month_of-last_reach, mark-day_of_month, day_of_month-low, day_of_month-high)
+pub ruleset months_of_days = (
+  month_start-month_of,
+  lt-month_start,
+  month_of-only,
+  month_of-first_reach,
+  month_of-last_reach,
+  mark-day_of_month,
+  day_of_month-low,
+  day_of_month-high,
+)

@@ -72,8 +72,8 @@ impl Day {
     }
 }
 
-/// A day that may follow from a named one, such as the end of a period: a number of days from 1970-01-01, from
-/// `FIRST_REACH` to `LAST_REACH`.
+/// A day that may follow from a named one, such as the end of a period: a number of days from 1970-01-01,
+/// from `FIRST_REACH` to `LAST_REACH`.
 #[derive(Clone, Copy, Debug, PartialEq, Eq, PartialOrd)]
 pub struct Reach {
     number: u32,

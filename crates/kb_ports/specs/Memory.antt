@@ -10,7 +10,8 @@ fails_next failing calls = list_any (λ number. number == next_count calls) fail
 second_fails : fails_next (2 ∷ 4 ∷ []) 1 ≡ true
 second_fails = refl
 
--- The bytes that are left or written, the numbers of the calls that fail, the calls so far, and how many failed.
+-- The bytes that are left or written, the numbers of the calls that fail, the calls so far, and how many
+-- failed.
 pub record Memory : Type 0 where
   pub bytes : List ℕ
   pub failing : List ℕ
@@ -25,12 +26,14 @@ uncalled bytes failing = record { bytes = bytes; failing = failing; calls = 0; f
 abbrev pub after_fault : Memory → Memory
 after_fault memory = record memory { calls = next_count memory.calls; faults = next_count memory.faults }
 
-one_fault : after_fault (uncalled (7 ∷ []) (1 ∷ [])) ≡ record { bytes = 7 ∷ []; failing = 1 ∷ []; calls = 1; faults = 1 }
+one_fault : after_fault (uncalled (7 ∷ []) (1 ∷ []))
+    ≡ record { bytes = 7 ∷ []; failing = 1 ∷ []; calls = 1; faults = 1 }
 one_fault = refl
 
 -- after a call that left these bytes
 abbrev pub after_call : Memory → List ℕ → Memory
 after_call memory bytes = record memory { bytes = bytes; calls = next_count memory.calls }
 
-one_read : after_call (uncalled (7 ∷ 8 ∷ []) []) (8 ∷ []) ≡ record { bytes = 8 ∷ []; failing = []; calls = 1; faults = 0 }
+one_read : after_call (uncalled (7 ∷ 8 ∷ []) []) (8 ∷ [])
+    ≡ record { bytes = 8 ∷ []; failing = []; calls = 1; faults = 0 }
 one_read = refl

@@ -12,4 +12,18 @@ returns c =
     let day : day_of_month c.args.day ≡ c.from-day.result = omega arith in
     let thousands : c.year_of-year.result / 10 / 10 / 10 ≡ c.year_of-year.result / 1000 = omega arith in
     let hundreds : c.year_of-year.result / 10 / 10 ≡ c.year_of-year.result / 100 = omega arith in
-    rw (year, month, day, thousands, hundreds, c.digit.ensures, c.digit-2.ensures, c.digit-3.ensures, c.digit-4.ensures, c.digit-5.ensures, c.digit-6.ensures, c.digit-7.ensures, c.digit-8.ensures) refl
+    rw (
+      year,
+      month,
+      day,
+      thousands,
+      hundreds,
+      c.digit.ensures,
+      c.digit-2.ensures,
+      c.digit-3.ensures,
+      c.digit-4.ensures,
+      c.digit-5.ensures,
+      c.digit-6.ensures,
+      c.digit-7.ensures,
+      c.digit-8.ensures,
+    ) refl
