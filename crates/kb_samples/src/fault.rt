@@ -7,15 +7,18 @@ use std::alloc::{AllocError, AllocFailed};
 use thiserror::Error;
 
 /// Why a sample isn't made.
-#[derive(Clone, Copy, Debug, PartialEq, Eq, Error)]
+#[derive(Clone, Copy, Debug, Error)]
 pub enum SampleFault {
     /// A number or a text isn't what it stands for.
-    #[error("no such day, name or price")]
+    #[error("no such day or name")]
     Word,
-    /// The catalog breaks a rule.
-    #[error("a catalog that breaks a rule")]
+    /// A catalog text is refused, or a version isn't after the one before.
+    #[error("no such catalog")]
     Catalog,
-    /// A step names a subscription that isn't there, or creates a fourth one.
+    /// A step names a plan that isn't in the catalog on its day.
+    #[error("no such plan")]
+    Plan,
+    /// A step names a subscription that isn't there, or creates a fifth one.
     #[error("no such subscription")]
     Subscription,
     /// A step is refused.

@@ -1,20 +1,19 @@
-//! Accounts to test on: a small catalog, and timelines and blocking states as they are told in steps.
+//! Accounts to test on: catalogs read from a shop's texts, and accounts as they are told in steps.
 //!
-//! The rule kept here: nothing that ships stands on it. Layers above take its accounts into their tests alone; what an
-//! account tells in numbers and texts that make no sense is a `SampleFault`, which fails the test.
+//! The rule kept here: nothing that ships stands on it. Crates of rows take its accounts into their tests alone;
+//! what an account tells in dates and names that make no sense is a `SampleFault`, which fails the test.
 #![tactic(auto)]
 
+mod account;
+mod club;
 mod fault;
-mod plans;
-mod rules;
+mod read;
 mod shop;
-mod states;
-mod steps;
-mod words;
+mod step;
 
+pub use account::Account;
+pub use club::{CLUB, DEARER_CLUB};
 pub use fault::SampleFault;
-pub use plans::{BASIC, EXTRA, HELPER, OWN, PRO, STARTER, SUPPORT, THIRTY};
-pub use shop::catalog;
-pub use states::{Block, blocks};
-pub use steps::{Step, after, timeline};
-pub use words::currency;
+pub use read::{bcd, catalog, currency, day, name, reach};
+pub use shop::{OVERDUE, SHOP};
+pub use step::{Anchor, Step};
