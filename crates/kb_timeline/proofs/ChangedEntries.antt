@@ -7,7 +7,7 @@ use Rattle.std.proofs.lemmas.List.Elements.{All-push, All-filter, filter_passes}
 use Rattle.std.proofs.lemmas.List.Kept.{AllPairs-cons, AllPairs-filter}
 use Rattle.std.proofs.lemmas.List.Quantifiers.{all_pairs_push}
 use Rattle.kb_timeline.specs.declared.entry.Entry.{Entry}
-use Rattle.kb_timeline.specs.EntryDays.{IsEntries, most_entries, is_before_start, kept_by_change, with_change}
+use Rattle.kb_timeline.specs.EntryDays.{IsEntries, max_entries, is_before_start, kept_by_change, with_change}
 use Rattle.kb_timeline.proofs.Partitions.{filter-take}
 
 -- so many changes are dated before a day, and no other one
@@ -24,7 +24,7 @@ kept_by_change-take (start ∷ changes) day count some within earlier =
 
 -- the entries after a change that doesn't lie before the start
 pub IsEntries-with_change : (entries : List Entry) (change : Entry) → IsEntries entries → is_before_start entries change.day ≡ false
-    → length (with_change entries change) ≤ most_entries → IsEntries (with_change entries change)
+    → length (with_change entries change) ≤ max_entries → IsEntries (with_change entries change)
 IsEntries-with_change [] change is begun limit = let some = is.started in absurd (omega arith)
 IsEntries-with_change (start ∷ changes) change is begun limit =
     record {

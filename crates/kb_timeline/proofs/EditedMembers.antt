@@ -1,5 +1,6 @@
 -- A list of which the member at a place is edited.
-use Rattle.std.proofs.Common.{◌≡◌, ℕ, zero, suc, List, [], ◌∷◌, length, get_or, set, slice_get, Some, refl, ap, sym, ◌∙◌}
+use Rattle.std.proofs.Common.{◌≡◌, ℕ, zero, suc, ◌+◌, Bool, if◌then◌else◌, List, [], ◌∷◌, length, get_or, set, slice_get, Some, refl, ap, sym, ◌∙◌}
+use Rattle.std.specs.List.{position_from}
 use Rattle.std.proofs.lemmas.Option.{none-some}
 use Rattle.kb_timeline.specs.declared.subscription.Subscription.{Subscription}
 use Rattle.kb_timeline.specs.TimelineEdits.{TimelineValue, edited_at, with_edit}
@@ -23,6 +24,18 @@ module _ {A : Type 0} where
   length-edited_at place edit [] = refl
   length-edited_at zero edit (member ∷ later) = refl
   length-edited_at (suc place) edit (member ∷ later) = ap (λ count. suc count) (length-edited_at place edit later)
+
+  -- an edit that passes a test as the old member does leaves what is found by it
+  pub position_from-edited_at : (test : A → Bool) (start place : ℕ) (old new : A) (members : List A)
+      → slice_get members place ≡ Some old → test new ≡ test old
+      → position_from test start (edited_at place (λ (member : A). new) members) ≡ position_from test start members
+  position_from-edited_at test start place old new [] there kept = refl
+  position_from-edited_at test start zero old new (member ∷ later) there kept =
+      let same : member ≡ old = cc in
+      ap (λ passes. if passes then Some start else position_from test (start + 1) later) (kept ∙ ap test (sym same))
+  position_from-edited_at test start (suc place) old new (member ∷ later) there kept =
+      ap (λ rest. if test member then Some start else rest)
+      (position_from-edited_at test (start + 1) place old new later there kept)
 
   -- what an edit keeps of the member that is there, it keeps of each
   pub edited_at-keeps : {B : Type 0} (of : A → B) (place : ℕ) (old new : A) (members : List A) → slice_get members place ≡ Some old → of new ≡ of old

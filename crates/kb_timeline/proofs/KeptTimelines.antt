@@ -1,15 +1,16 @@
 -- A timeline stays one when a subscription is created or edited.
-use Rattle.std.proofs.Common.{◌≡◌, ℕ, ◌+◌, ◌<◌, ◌≤◌, Bool, true, false, List, [], ◌∷◌, ◌++◌, length, length-append, get_or, slice_get, bytes_eq, nat_lt, unwrap_or, Option, Some, None, IfSome, refl, sym, subst, ltb-true, arith}
+use Rattle.std.proofs.Common.{◌≡◌, ℕ, ◌+◌, ◌<◌, ◌≤◌, Bool, true, false, List, [], ◌∷◌, ◌++◌, length, length-append, get_or, slice_get, bytes_eq, nat_lt, nat_eq, unwrap_or, Option, Some, None, IsSome, IfSome, ◌⊎◌, inl, inr, refl, sym, subst, ap, ltb-true, arith}
 use Rattle.std.specs.List.{All, AllPairs, position_from}
+use Rattle.std.proofs.lemmas.Bool.{cases_lt, eq-eqb}
 use Rattle.std.proofs.lemmas.List.Elements.{All-push}
 use Rattle.std.proofs.lemmas.List.Quantifiers.{all_pairs_push}
 use Rattle.std.proofs.lemmas.Option.{slice_get-get_or}
 use Rattle.std.proofs.lemmas.Slice.Eq.{bytes_eq-Decides}
 use Rattle.kb_timeline.specs.declared.entry.Entry.{Entry}
 use Rattle.kb_timeline.specs.declared.subscription.Subscription.{Subscription}
-use Rattle.kb_timeline.specs.TimelineEdits.{TimelineValue, IsTimeline, most_subscriptions, bundle_named, subscription_named, with_name, created, create_fault, edited_at, with_edit}
-use Rattle.kb_timeline.proofs.EditedMembers.{edited_at-keeps, length-edited_at}
-use Rattle.kb_timeline.proofs.FoundPlaces.{position_from-none, position_from-within}
+use Rattle.kb_timeline.specs.TimelineEdits.{TimelineValue, IsTimeline, max_subscriptions, bundle_named, subscription_named, lead_of, with_name, created, create_fault, edited_at, with_edit}
+use Rattle.kb_timeline.proofs.EditedMembers.{edited_at-keeps, length-edited_at, position_from-edited_at}
+use Rattle.kb_timeline.proofs.FoundPlaces.{position_from-none, position_from-within, position_from-push}
 
 -- names differ in both orders
 bytes_eq-flip : (one other : List ℕ) → bytes_eq one other ≡ false → bytes_eq other one ≡ false
@@ -31,6 +32,7 @@ IsTimeline-with_edit timeline place new is within same =
       bundle_names = is.bundle_names;
       names = λ i j d below inside. rw (same_name i d, same_name j d) (is.names i j d below (omega (arith, count)));
       placed = λ k d inside. rw (same_bundle k d) (is.placed k d (omega (arith, count)));
+      led = λ bundle inside. rw (same_lead bundle) (is.led bundle inside);
       few = omega (arith, count, is.few);
       limit = omega (arith, count, is.limit);
     }
@@ -54,19 +56,25 @@ IsTimeline-with_edit timeline place new is within same =
     same_name = edited_at-keeps (λ (subscription : Subscription). subscription.name) place old new timeline.subscriptions there kept.0
 
     same_bundle : (k : ℕ) (d : Subscription) → (get_or edited k d).bundle ≡ (get_or timeline.subscriptions k d).bundle
-    same_bundle = edited_at-keeps (λ (subscription : Subscription). subscription.bundle) place old new timeline.subscriptions there kept.1
+    same_bundle =
+        edited_at-keeps (λ (subscription : Subscription). subscription.bundle) place old new timeline.subscriptions there kept.1
+
+    same_lead : (bundle : ℕ) → position_from (λ (sub : Subscription). nat_eq sub.bundle bundle) 0 edited ≡ lead_of timeline bundle
+    same_lead bundle =
+        position_from-edited_at (λ (sub : Subscription). nat_eq sub.bundle bundle) 0 place old new timeline.subscriptions
+        there (ap (λ at. nat_eq at bundle) kept.1)
 
 -- a subscription that isn't refused has a new name, and there is room for it
 create_fault-none : (timeline : TimelineValue) (name : List ℕ) → create_fault timeline name ≡ None
-    → (subscription_named timeline name ≡ None) × (length timeline.subscriptions < most_subscriptions)
+    → (subscription_named timeline name ≡ None) × (length timeline.subscriptions < max_subscriptions)
 create_fault-none timeline name none = by_place (subscription_named timeline name) refl
   where
     by_place : (place : Option ℕ) → subscription_named timeline name ≡ place
-        → (subscription_named timeline name ≡ None) × (length timeline.subscriptions < most_subscriptions)
-    by_place None is = (is, by_room (nat_lt (length timeline.subscriptions) most_subscriptions) refl)
+        → (subscription_named timeline name ≡ None) × (length timeline.subscriptions < max_subscriptions)
+    by_place None is = (is, by_room (nat_lt (length timeline.subscriptions) max_subscriptions) refl)
       where
-        by_room : (room : Bool) → nat_lt (length timeline.subscriptions) most_subscriptions ≡ room → length timeline.subscriptions < most_subscriptions
-        by_room true room = ltb-true (length timeline.subscriptions) most_subscriptions room
+        by_room : (room : Bool) → nat_lt (length timeline.subscriptions) max_subscriptions ≡ room → length timeline.subscriptions < max_subscriptions
+        by_room true room = ltb-true (length timeline.subscriptions) max_subscriptions room
         by_room false room = let refused = rw (is, room) at none in absurd (cc)
     by_place (Some place) is = let refused = rw is at none in absurd (cc)
 
@@ -92,6 +100,12 @@ length-with_name : (names : List (List ℕ)) (name : List ℕ) (place : Option �
 length-with_name names name None = (omega (arith, length-append names (name ∷ [])), omega (arith, length-append names (name ∷ [])))
 length-with_name names name (Some place) = (omega arith, omega arith)
 
+-- a bundle that wasn't there is that of a subscription whose bundle has the name
+unwrap_or-new : (names : List (List ℕ)) (name : List ℕ) (place : Option ℕ) (bundle : ℕ) → length names ≤ bundle
+    → bundle < length (with_name names place name) → unwrap_or place (length names) ≡ bundle
+unwrap_or-new names name None bundle behind within = omega (arith, length-append names (name ∷ []))
+unwrap_or-new names name (Some place) bundle behind within = absurd (omega arith)
+
 -- a subscription that isn't refused makes another timeline
 pub IsTimeline-created : (timeline : TimelineValue) (bundle name : List ℕ) (addon : Bool) (first : Entry) → IsTimeline timeline → create_fault timeline name ≡ None
     → IsTimeline (created timeline bundle name addon first)
@@ -99,7 +113,10 @@ IsTimeline-created timeline bundle name addon first is none =
     record {
       bundle_names = AllPairs-with_name timeline.bundles bundle place refl is.bundle_names;
       names = all_pairs_push (λ (one other : Subscription). bytes_eq one.name other.name ≡ false) timeline.subscriptions new is.names other_name;
-      placed = All-push (λ (subscription : Subscription). subscription.bundle < length names) timeline.subscriptions new earlier (unwrap_or-with_name timeline.bundles bundle place refl);
+      placed = All-push (λ (subscription : Subscription). subscription.bundle < length names) timeline.subscriptions new earlier
+          (unwrap_or-with_name timeline.bundles bundle place refl);
+      led = λ other within.
+          position_from-push (λ (sub : Subscription). nat_eq sub.bundle other) 0 timeline.subscriptions new (by_age other within);
       few = omega (arith, longer.1, is.few, count);
       limit = omega (arith, count, room.1);
     }
@@ -113,7 +130,7 @@ IsTimeline-created timeline bundle name addon first is none =
     new : Subscription
     new = record { name = name; bundle = unwrap_or place (length timeline.bundles); addon = addon; entries = first ∷ []; cancel = None }
 
-    room : (subscription_named timeline name ≡ None) × (length timeline.subscriptions < most_subscriptions)
+    room : (subscription_named timeline name ≡ None) × (length timeline.subscriptions < max_subscriptions)
     room = create_fault-none timeline name none
 
     longer : (length timeline.bundles ≤ length names) × (length names ≤ length timeline.bundles + 1)
@@ -128,3 +145,11 @@ IsTimeline-created timeline bundle name addon first is none =
 
     earlier : All (λ (subscription : Subscription). subscription.bundle < length names) timeline.subscriptions
     earlier k d within = let old = is.placed k d within in omega (arith, longer.0)
+
+    by_age : (other : ℕ) → other < length names
+        → IsSome (lead_of timeline other) ⊎ (nat_eq new.bundle other ≡ true)
+    by_age other within =
+        elim (cases_lt other (length timeline.bundles)) [
+          | inl there ↦ inl (is.led other there)
+          | inr behind ↦ inr (eq-eqb _ other (unwrap_or-new timeline.bundles bundle place other behind within))
+        ]

@@ -4,4 +4,5 @@ pub mod DatedEntries
 pub mod EditedMembers
 mod FoundPlaces
 pub mod KeptTimelines
+pub mod Leads
 pub mod Partitions

@@ -4,16 +4,16 @@ use Rattle.std.specs.List.{AllPairs, last_or}
 use Rattle.kb_timeline.specs.declared.entry.Entry.{Entry}
 
 -- the most entries that a subscription has
-abbrev pub most_entries : ℕ
-most_entries = 1024
+abbrev pub max_entries : ℕ
+max_entries = 1024
 
--- what always holds of entries: there is a start, no change lies before it, changes rise by day, and there are at most
--- 1,024 entries
+-- what always holds of entries: there is a start, no change lies before it, changes rise by day, and there
+-- are at most 1,024 entries
 pub record IsEntries (entries : List Entry) : Type 0 where
   pub started : 0 < length entries
   pub begun : AllPairs (λ (earlier later : Entry). earlier.day ≤ later.day) entries
   pub rising : AllPairs (λ (earlier later : Entry). earlier.day < later.day) (drop 1 entries)
-  pub limit : length entries ≤ most_entries
+  pub limit : length entries ≤ max_entries
 
 -- the entry that governs a day: the last one dated on or before it
 abbrev pub entry_on : List Entry → ℕ → Option Entry

@@ -5,19 +5,19 @@ use Rattle.kb_timeline.specs.declared.subscription.Subscription.{Subscription}
 use Rattle.kb_timeline.specs.declared.edit_fault.EditFault.{EditFault}
 use Rattle.kb_timeline.specs.declared.edit_fault.EditFault.TheVariants.{BeforeStart, Cancelled, NotCancelled, Limit}
 use Rattle.kb_timeline.specs.declared.edit_fault.Limit.TheVariants.{Entries}
-use Rattle.kb_timeline.specs.EntryDays.{most_entries, is_before_start, with_change}
+use Rattle.kb_timeline.specs.EntryDays.{max_entries, is_before_start, with_change}
 
 -- a change: the entries that it leaves, and itself
 abbrev pub change_of : Entry → Subscription → Subscription
 change_of change subscription = record subscription { entries = with_change subscription.entries change }
 
--- it is refused before the start, where the subscription is cancelled on whichever day, and where it would be one
--- entry too many
+-- it is refused before the start, where the subscription is cancelled on whichever day, and where it would be
+-- one entry too many
 abbrev pub change_fault_of : Entry → Subscription → Option EditFault
 change_fault_of change subscription =
     if is_before_start subscription.entries change.day then Some BeforeStart
     else if is_some subscription.cancel then Some Cancelled
-    else if nat_lt most_entries (length (with_change subscription.entries change)) then Some (Limit Entries)
+    else if nat_lt max_entries (length (with_change subscription.entries change)) then Some (Limit Entries)
     else None
 
 -- a cancellation: its day is noted, and all entries stay, later ones too

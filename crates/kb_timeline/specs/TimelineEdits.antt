@@ -1,5 +1,5 @@
 -- Timelines, and what an edit makes of one.
-use Rattle.std.specs.Prelude.{ℕ, zero, suc, ◌≡◌, ◌<◌, ◌≤◌, Bool, false, bytes_eq, nat_eq, nat_lt, List, [], ◌∷◌, ◌++◌, length, slice_get, All, Option, Some, None, is_some, unwrap_or, option_and_then, if◌then◌else◌}
+use Rattle.std.specs.Prelude.{ℕ, zero, suc, ◌≡◌, ◌<◌, ◌≤◌, ◌≢◌, Bool, false, bytes_eq, nat_eq, nat_lt, List, [], ◌∷◌, ◌++◌, length, slice_get, take, All, Option, Some, None, IsSome, IfSome, is_some, unwrap_or, option_and_then, if◌then◌else◌}
 use Rattle.std.specs.List.{AllPairs, position_from}
 use Rattle.kb_timeline.specs.declared.entry.Entry.{Entry}
 use Rattle.kb_timeline.specs.declared.subscription.Subscription.{Subscription}
@@ -9,37 +9,45 @@ use Rattle.kb_timeline.specs.declared.edit_fault.Limit.TheVariants.{Subscription
 use Rattle.kb_timeline.specs.SubscriptionEdits.{change_of, change_fault_of, cancel_of, cancel_fault_of, uncancel_of, uncancel_fault_of}
 
 -- the most subscriptions that an account has
-abbrev pub most_subscriptions : ℕ
-most_subscriptions = 128
+abbrev pub max_subscriptions : ℕ
+max_subscriptions = 128
 
 -- what contracts see of a timeline: the names of the bundles, and the subscriptions, in order of creation
 pub record TimelineValue : Type 0 where
   pub bundles : List (List ℕ)
   pub subscriptions : List Subscription
 
--- what always holds of a timeline: names are distinct, each subscription's bundle is there, no bundle is without one,
--- and there are at most 128 subscriptions
-pub record IsTimeline (timeline : TimelineValue) : Type 0 where
-  pub bundle_names : AllPairs (λ (one other : List ℕ). bytes_eq one other ≡ false) timeline.bundles
-  pub names : AllPairs (λ (one other : Subscription). bytes_eq one.name other.name ≡ false) timeline.subscriptions
-  pub placed : All (λ (subscription : Subscription). subscription.bundle < length timeline.bundles) timeline.subscriptions
-  pub few : length timeline.bundles ≤ length timeline.subscriptions
-  pub limit : length timeline.subscriptions ≤ most_subscriptions
-
--- the timeline of a new account
-abbrev pub no_subscriptions : TimelineValue
-no_subscriptions = record { bundles = []; subscriptions = [] }
-
 -- the place of the bundle, or of the subscription, of a name
 abbrev pub bundle_named : TimelineValue → List ℕ → Option ℕ
 bundle_named timeline name = position_from (λ (other : List ℕ). bytes_eq name other) 0 timeline.bundles
 
 abbrev pub subscription_named : TimelineValue → List ℕ → Option ℕ
-subscription_named timeline name = position_from (λ (subscription : Subscription). bytes_eq name subscription.name) 0 timeline.subscriptions
+subscription_named timeline name =
+    position_from (λ (sub : Subscription). bytes_eq name sub.name) 0 timeline.subscriptions
 
 -- the place of a bundle's lead: its first subscription
 abbrev pub lead_of : TimelineValue → ℕ → Option ℕ
-lead_of timeline bundle = position_from (λ (subscription : Subscription). nat_eq subscription.bundle bundle) 0 timeline.subscriptions
+lead_of timeline bundle =
+    position_from (λ (sub : Subscription). nat_eq sub.bundle bundle) 0 timeline.subscriptions
+
+-- a place is that of a bundle's lead: the subscription there is of the bundle, and none before it is
+pub record IsLead (timeline : TimelineValue) (bundle place : ℕ) : Type 0 where
+  pub of_bundle : IfSome (slice_get timeline.subscriptions place) (λ lead. lead.bundle ≡ bundle)
+  pub first : All (λ (before : Subscription). before.bundle ≢ bundle) (take place timeline.subscriptions)
+
+-- what always holds of a timeline: names are distinct, the bundle of each subscription is there, each bundle
+-- has a lead, and there are no more bundles than subscriptions, and at most 128 of those
+pub record IsTimeline (timeline : TimelineValue) : Type 0 where
+  pub bundle_names : AllPairs (λ (one other : List ℕ). bytes_eq one other ≡ false) timeline.bundles
+  pub names : AllPairs (λ (one two : Subscription). bytes_eq one.name two.name ≡ false) timeline.subscriptions
+  pub placed : All (λ (sub : Subscription). sub.bundle < length timeline.bundles) timeline.subscriptions
+  pub led : (bundle : ℕ) → bundle < length timeline.bundles → IsSome (lead_of timeline bundle)
+  pub few : length timeline.bundles ≤ length timeline.subscriptions
+  pub limit : length timeline.subscriptions ≤ max_subscriptions
+
+-- the timeline of a new account
+abbrev pub no_subscriptions : TimelineValue
+no_subscriptions = record { bundles = []; subscriptions = [] }
 
 -- the entries of the subscription at a place
 abbrev pub entries_at : TimelineValue → ℕ → List Entry
@@ -71,7 +79,7 @@ created timeline bundle name addon first = record {
 abbrev pub create_fault : TimelineValue → List ℕ → Option EditFault
 create_fault timeline name =
     if is_some (subscription_named timeline name) then Some SubscriptionExists
-    else if nat_lt (length timeline.subscriptions) most_subscriptions then None
+    else if nat_lt (length timeline.subscriptions) max_subscriptions then None
     else Some (Limit Subscriptions)
 
 -- the member at a place is edited
@@ -82,7 +90,8 @@ edited_at (suc place) edit (member ∷ later) = member ∷ edited_at place edit 
 
 -- the subscription at a place is edited
 abbrev pub with_edit : TimelineValue → ℕ → (Subscription → Subscription) → TimelineValue
-with_edit timeline place edit = record timeline { subscriptions = edited_at place edit timeline.subscriptions }
+with_edit timeline place edit =
+    record timeline { subscriptions = edited_at place edit timeline.subscriptions }
 
 -- why an edit of the subscription at a place is refused, if it is
 abbrev pub fault_at : TimelineValue → ℕ → (Subscription → Option EditFault) → Option EditFault

@@ -2,15 +2,16 @@
 ghost use Rattle.std.specs.Prelude.{◌≡◌};
 
 use kb_base::NoMemory;
-use std::alloc::{AllocError, AllocFailed};
 use thiserror::Error;
 
 /// What there may be only so many of.
-#[derive(Clone, Copy, Debug, PartialEq, Eq, Hash)]
+#[derive(Clone, Copy, Debug, PartialEq, Eq, Error)]
 pub enum Limit {
-    /// The subscriptions of an account: 128.
+    /// The subscriptions of an account: `MAX_SUBSCRIPTIONS`.
+    #[error("the account has 128 subscriptions and can take no more: create this one in another account")]
     Subscriptions,
-    /// The entries of a subscription: 1,024.
+    /// The entries of a subscription: `MAX_ENTRIES`.
+    #[error("the subscription has 1,024 entries: only a change that takes the place of others can be made")]
     Entries,
 }
 
@@ -18,19 +19,19 @@ pub enum Limit {
 #[derive(Clone, Copy, Debug, PartialEq, Eq, Error)]
 pub enum EditFault {
     /// A subscription has this name.
-    #[error("the subscription exists")]
+    #[error("the account has a subscription of this name: choose another name")]
     SubscriptionExists,
     /// The day lies before the start.
-    #[error("before the start")]
+    #[error("the day lies before the start of the subscription: choose that day or a later one")]
     BeforeStart,
     /// The subscription is cancelled, on whichever day.
-    #[error("the subscription is cancelled")]
+    #[error("the subscription is cancelled: take the cancellation back first")]
     Cancelled,
     /// There is no cancellation to take back.
-    #[error("the subscription isn't cancelled")]
+    #[error("the subscription has no cancellation to take back")]
     NotCancelled,
     /// There would be too many.
-    #[error("too many of {0:?}")]
+    #[error("{0}")]
     Limit(Limit),
     /// Memory ran out.
     #[error("out of memory")]
@@ -43,26 +44,6 @@ impl From<NoMemory> for EditFault {
     ghost from_gives = { λ _ fault. fault ≡ NoMemory };
 
     fn from(_: NoMemory) -> EditFault {
-        EditFault::NoMemory
-    }
-}
-
-impl From<AllocError> for EditFault {
-    ghost use Rattle.kb_timeline.specs.declared.edit_fault.EditFault.TheVariants.{NoMemory};
-
-    ghost from_gives = { λ _ fault. fault ≡ NoMemory };
-
-    fn from(_: AllocError) -> EditFault {
-        EditFault::NoMemory
-    }
-}
-
-impl<T: Drop> From<AllocFailed<T>> for EditFault {
-    ghost use Rattle.kb_timeline.specs.declared.edit_fault.EditFault.TheVariants.{NoMemory};
-
-    ghost from_gives = { λ _ fault. fault ≡ NoMemory };
-
-    fn from(_: AllocFailed<T>) -> EditFault {
         EditFault::NoMemory
     }
 }

@@ -1,8 +1,8 @@
 //! The entries of a subscription.
-ghost use Rattle.std.specs.Prelude.{◌≡◌, ◌↔◌, ◌<◌, ◌≤◌, ◌+◌, ◌∷◌, [], true, false, length, take, drop, slice_get, Some, None, Err, All, IfOk, IfErr, IfSome, option_and_then, option_copied};
+ghost use Rattle.std.specs.Prelude.{◌≡◌, ◌↔◌, ◌<◌, ◌≤◌, ◌+◌, ◌++◌, ◌∷◌, [], true, false, length, take, drop, slice_get, Some, None, Err, All, IfOk, IfErr, IfSome, option_and_then, option_copied};
 ghost use Rattle.std.specs.List.Sorted.{IsPartitionPoint};
 ghost use Rattle.kb_timeline.specs.declared.entry.Entry.{Entry};
-ghost use Rattle.kb_timeline.specs.EntryDays.{most_entries, IsEntries, entry_on, is_before_start, kept_by_change, with_change};
+ghost use Rattle.kb_timeline.specs.EntryDays.{max_entries, IsEntries, entry_on, is_before_start, kept_by_change, with_change};
 
 use crate::{EditFault, Entry, Limit};
 use kb_base::{NoMemory, Seq};
@@ -11,10 +11,10 @@ use std::alloc::Global;
 use std::marker::Model;
 
 /// The most entries that a subscription has.
-const MOST_ENTRIES: usize = 1024;
+pub const MAX_ENTRIES: usize = 1024;
 
-/// The entries of a subscription: its start, and its changes by rising day, the first of which may be dated on the
-/// start's day. There are at most 1,024.
+/// The entries of a subscription: its start, and its changes by rising day, the first of which may be dated
+/// on the start's day. There are at most `MAX_ENTRIES`.
 #[derive(Debug, Drop)]
 pub struct Entries {
     items: Seq<Entry>,
@@ -64,10 +64,12 @@ impl Entries {
         day < self.start().day
     }
 
-    /// The place, from 0, of the entry that governs a day: the last one dated on or before it. It takes no memory.
+    /// The place, from 0, of the entry that governs a day: the last one dated on or before it. It takes no
+    /// memory.
     pub fn governing(&self, day: Reach) -> Option<u32>
         ensures entry { option_and_then (slice_get self.now) result ≡ entry_on self.now day }
-        ensures last { IfSome result (λ place. All (λ (later : Entry). day < later.day) (drop (place + 1) self.now)) }
+        ensures last { IfSome result (λ place.
+            All (λ (later : Entry). day < later.day) (drop (place + 1) self.now)) }
         ensures before { (result ≡ None) ↔ (is_before_start self.now day ≡ true) }
     {
         let count = self.count_begun(day);
@@ -106,7 +108,8 @@ impl Entries {
 
     /// How many entries are dated on or before a day.
     fn count_begun(&self, day: Reach) -> usize
-        ensures begun { IsPartitionPoint (λ (entry : Entry). entry.day ≤ day) (λ (entry : Entry). day < entry.day) self.now result }
+        ensures begun { IsPartitionPoint (λ (entry : Entry). entry.day ≤ day)
+            (λ (entry : Entry). day < entry.day) self.now result }
         ensures inside { result ≤ length self.now }
         ensures sound { IsEntries self.now }
     {
@@ -135,17 +138,25 @@ impl Entries {
     pub(crate) fn with_change(&self, alloc: Global, change: Entry) -> Result<Entries, EditFault>
         requires begun { is_before_start self.now change.day ≡ false }
         ensures changed { IfOk result (λ entries. entries ≡ with_change self.now change) }
-        ensures limit { most_entries < length (with_change self.now change) → result ≡ Err (EditFault.Limit Limit.Entries) }
-        ensures memory { length (with_change self.now change) ≤ most_entries → IfErr result (λ fault. fault ≡ EditFault.NoMemory) }
+        ensures limit { max_entries < length (with_change self.now change)
+            → result ≡ Err (EditFault.Limit Limit.Entries) }
+        ensures memory { length (with_change self.now change) ≤ max_entries
+            → IfErr result (λ fault. fault ≡ EditFault.NoMemory) }
     {
         let kept = self.count_kept(change.day);
-        if kept == MOST_ENTRIES {
+        if kept == MAX_ENTRIES {
             return Err(EditFault::Limit(Limit::Entries));
         }
-        let mut items = self.as_slice()[..kept].to_vec(alloc)?;
-        items.push(change)?;
-        Ok(Entries {
-            items: Seq::from_vec(items),
-        })
+        let items = with_entry(alloc, &self.as_slice()[..kept], change)?;
+        Ok(Entries { items })
     }
+}
+
+/// Some entries, and another one behind them.
+fn with_entry(alloc: Global, entries: &[Entry], entry: Entry) -> Result<Seq<Entry>, NoMemory>
+    ensures { IfOk result (λ longer. longer ≡ entries.now ++ entry ∷ []) }
+{
+    let mut items = Seq::from_vec(entries.to_vec(alloc)?);
+    items.push(entry)?;
+    Ok(items)
 }

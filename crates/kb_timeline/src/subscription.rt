@@ -25,7 +25,8 @@ impl Subscription {
     pub(crate) fn changed(&self, alloc: Global, change: Entry) -> Result<Subscription, EditFault>
         ensures changed { IfOk result (λ subscription. subscription ≡ change_of change self.now) }
         ensures refused { IfSome (change_fault_of change self.now) (λ fault. result ≡ Err fault) }
-        ensures memory { change_fault_of change self.now ≡ None → IfErr result (λ fault. fault ≡ EditFault.NoMemory) }
+        ensures memory { change_fault_of change self.now ≡ None
+            → IfErr result (λ fault. fault ≡ EditFault.NoMemory) }
     {
         if self.entries.is_before_start(change.day) {
             return Err(EditFault::BeforeStart);
@@ -41,7 +42,8 @@ impl Subscription {
     pub(crate) fn cancelled(&self, alloc: Global, day: Day) -> Result<Subscription, EditFault>
         ensures cancelled { IfOk result (λ subscription. subscription ≡ cancel_of day self.now) }
         ensures refused { IfSome (cancel_fault_of day self.now) (λ fault. result ≡ Err fault) }
-        ensures memory { cancel_fault_of day self.now ≡ None → IfErr result (λ fault. fault ≡ EditFault.NoMemory) }
+        ensures memory { cancel_fault_of day self.now ≡ None
+            → IfErr result (λ fault. fault ≡ EditFault.NoMemory) }
     {
         if self.entries.is_before_start(day) {
             return Err(EditFault::BeforeStart);
@@ -57,7 +59,8 @@ impl Subscription {
     pub(crate) fn uncancelled(&self, alloc: Global) -> Result<Subscription, EditFault>
         ensures uncancelled { IfOk result (λ subscription. subscription ≡ uncancel_of self.now) }
         ensures refused { IfSome (uncancel_fault_of self.now) (λ fault. result ≡ Err fault) }
-        ensures memory { uncancel_fault_of self.now ≡ None → IfErr result (λ fault. fault ≡ EditFault.NoMemory) }
+        ensures memory { uncancel_fault_of self.now ≡ None
+            → IfErr result (λ fault. fault ≡ EditFault.NoMemory) }
     {
         if self.cancel.is_none() {
             return Err(EditFault::NotCancelled);

@@ -1,14 +1,14 @@
 //! The subscriptions of an account.
-ghost use Rattle.std.specs.Prelude.{◌≡◌, ◌↔◌, ◌<◌, ◌≤◌, ◌+◌, ◌++◌, ◌∷◌, [], ℕ, true, bytes_eq, List, length, map, drop, slice_get, Some, None, Err, All, IfOk, IfErr, IfSome, option_and_then};
+ghost use Rattle.std.specs.Prelude.{◌≡◌, ◌↔◌, ◌<◌, ◌≤◌, ◌+◌, ◌++◌, ◌∷◌, [], ℕ, true, bytes_eq, List, length, map, drop, slice_get, Some, None, Err, All, IsSome, IfOk, IfErr, IfSome, option_and_then};
 ghost use Rattle.std.specs.List.{position_from};
 ghost use Rattle.std.specs.Arc.{arc_value};
 ghost use Rattle.kb_timeline.specs.declared.entry.Entry.{Entry};
 ghost use Rattle.kb_timeline.specs.declared.subscription.Subscription.{Subscription};
 ghost use Rattle.kb_timeline.specs.EntryDays.{entry_on, is_before_start};
-ghost use Rattle.kb_timeline.specs.TimelineEdits.{IsTimeline, no_subscriptions, bundle_named, subscription_named, lead_of, entries_at, with_name, created, create_fault, edited_at, with_edit, changed, change_fault, cancelled, cancel_fault, uncancelled, uncancel_fault};
+ghost use Rattle.kb_timeline.specs.TimelineEdits.{IsTimeline, IsLead, no_subscriptions, bundle_named, subscription_named, lead_of, entries_at, with_name, created, create_fault, edited_at, with_edit, changed, change_fault, cancelled, cancel_fault, uncancelled, uncancel_fault};
 
 use crate::places::{bundle_named, first_of, subscription_named};
-use crate::sharing::{with_another, with_name, with_subscription};
+use crate::sharing::{same_names, with_another, with_name, with_subscription};
 use crate::{EditFault, Entries, Entry, Limit, Subscription};
 use kb_base::Seq;
 use kb_days::{Day, Name, Reach};
@@ -17,10 +17,10 @@ use std::marker::Model;
 use std::sync::Arc;
 
 /// The most subscriptions that an account has.
-const MOST_SUBSCRIPTIONS: u32 = 128;
+pub const MAX_SUBSCRIPTIONS: u32 = 128;
 
-/// The bundles and subscriptions of an account, each in order of creation: at most 128 subscriptions. An edited
-/// timeline shares the subscriptions that stay as they were.
+/// The bundles and subscriptions of an account, each in order of creation: at most `MAX_SUBSCRIPTIONS`
+/// subscriptions. An edited timeline shares the subscriptions that stay as they were.
 #[derive(Debug, Drop)]
 pub struct Timeline {
     bundles: Seq<Name>,
@@ -34,9 +34,15 @@ impl Model for Timeline {
 
     ghost Value = { TimelineValue };
 
-    ghost view = { λ timeline. record { bundles = timeline.bundles; subscriptions = map arc_value timeline.subscriptions.items } };
+    ghost view = { λ timeline. record {
+      bundles = timeline.bundles;
+      subscriptions = map arc_value timeline.subscriptions.items;
+    } };
 
-    ghost invariant = { λ timeline. IsTimeline (record { bundles = timeline.bundles; subscriptions = map arc_value timeline.subscriptions.items }) };
+    ghost invariant = { λ timeline. IsTimeline (record {
+      bundles = timeline.bundles;
+      subscriptions = map arc_value timeline.subscriptions.items;
+    }) };
 }
 
 impl Timeline {
@@ -87,27 +93,32 @@ impl Timeline {
         bundle_named(self.bundles.as_slice(), name)
     }
 
-    /// The place of a bundle's lead: its first subscription. It takes no memory.
+    /// The place of a bundle's lead: its first subscription. Every bundle has one. It takes no memory.
     pub fn lead(&self, bundle: u32) -> Option<u32>
         ensures place { result ≡ lead_of self.now bundle }
+        ensures led { bundle < length self.now.bundles → IsSome result }
         ensures there { IfSome result (λ place. place < length self.now.subscriptions) }
+        ensures first { IfSome result (λ place. IsLead self.now bundle place) }
     {
         first_of(&self.subscriptions, bundle)
     }
 
-    /// The place, among the entries of the subscription at a place, of the one that governs a day: the last one dated
-    /// on or before it. It takes no memory.
+    /// The place, among the entries of the subscription at a place, of the one that governs a day: the last
+    /// one dated on or before it. It takes no memory.
     pub fn governing(&self, sub: u32, day: Reach) -> Option<u32>
         requires there { sub < length self.now.subscriptions }
-        ensures entry { option_and_then (slice_get (entries_at self.now sub)) result ≡ entry_on (entries_at self.now sub) day }
-        ensures last { IfSome result (λ place. All (λ (later : Entry). day < later.day) (drop (place + 1) (entries_at self.now sub))) }
+        ensures entry { option_and_then (slice_get (entries_at self.now sub)) result
+            ≡ entry_on (entries_at self.now sub) day }
+        ensures last { IfSome result (λ place.
+            All (λ (later : Entry). day < later.day) (drop (place + 1) (entries_at self.now sub))) }
         ensures before { (result ≡ None) ↔ (is_before_start (entries_at self.now sub) day ≡ true) }
     {
         self.subscription(sub).entries.governing(day)
     }
 
-    /// The timeline with a subscription more, in the bundle of a name, which is created where it isn't there. Refused
-    /// as SubscriptionExists where a subscription has the name, and by the limit where there are 128.
+    /// The timeline with a subscription more, in the bundle of a name, which is created if it isn't there.
+    /// Refused as `SubscriptionExists` if a subscription has the name, and by the limit if there are
+    /// `MAX_SUBSCRIPTIONS`.
     pub fn create(
         &self,
         alloc: Global,
@@ -118,7 +129,8 @@ impl Timeline {
     ) -> Result<Timeline, EditFault>
         ensures created { IfOk result (λ timeline. timeline ≡ created self.now bundle name addon first) }
         ensures refused { IfSome (create_fault self.now name) (λ fault. result ≡ Err fault) }
-        ensures memory { create_fault self.now name ≡ None → IfErr result (λ fault. fault ≡ EditFault.NoMemory) }
+        ensures memory { create_fault self.now name ≡ None
+            → IfErr result (λ fault. fault ≡ EditFault.NoMemory) }
     {
         if let Some(fault) = self.create_fault(name) {
             return Err(fault);
@@ -139,38 +151,41 @@ impl Timeline {
         })
     }
 
-    /// The timeline with a change of the subscription at a place: the changes dated on or after it go. Refused as
-    /// BeforeStart where it is dated before the start, as Cancelled where the subscription is cancelled on whichever
-    /// day, and by the limit where it would be the 1,025th entry.
+    /// The timeline with a change of the subscription at a place: the changes dated on or after it go.
+    /// Refused as `BeforeStart` if it is dated before the start, as `Cancelled` if the subscription is
+    /// cancelled on whichever day, and by the limit if `MAX_ENTRIES` would stand before it.
     pub fn change(&self, alloc: Global, sub: u32, entry: Entry) -> Result<Timeline, EditFault>
         requires there { sub < length self.now.subscriptions }
         ensures changed { IfOk result (λ timeline. timeline ≡ changed self.now sub entry) }
         ensures refused { IfSome (change_fault self.now sub entry) (λ fault. result ≡ Err fault) }
-        ensures memory { change_fault self.now sub entry ≡ None → IfErr result (λ fault. fault ≡ EditFault.NoMemory) }
+        ensures memory { change_fault self.now sub entry ≡ None
+            → IfErr result (λ fault. fault ≡ EditFault.NoMemory) }
     {
         let subscription = self.subscription(sub).changed(alloc, entry)?;
         self.with_edited(alloc, sub, subscription)
     }
 
-    /// The timeline with a cancellation of the subscription at a place: it is live on the days before it, and the
-    /// changes dated later stay. Refused as BeforeStart and as Cancelled as a change is.
+    /// The timeline with a cancellation of the subscription at a place: it is live on the days before it, and
+    /// the changes dated later stay. Refused as `BeforeStart` and as `Cancelled` as a change is.
     pub fn cancel(&self, alloc: Global, sub: u32, day: Day) -> Result<Timeline, EditFault>
         requires there { sub < length self.now.subscriptions }
         ensures cancelled { IfOk result (λ timeline. timeline ≡ cancelled self.now sub day) }
         ensures refused { IfSome (cancel_fault self.now sub day) (λ fault. result ≡ Err fault) }
-        ensures memory { cancel_fault self.now sub day ≡ None → IfErr result (λ fault. fault ≡ EditFault.NoMemory) }
+        ensures memory { cancel_fault self.now sub day ≡ None
+            → IfErr result (λ fault. fault ≡ EditFault.NoMemory) }
     {
         let subscription = self.subscription(sub).cancelled(alloc, day)?;
         self.with_edited(alloc, sub, subscription)
     }
 
-    /// The timeline without the cancellation, past or future, of the subscription at a place. Refused as NotCancelled
-    /// where there is none.
+    /// The timeline without the cancellation, past or future, of the subscription at a place. Refused as
+    /// `NotCancelled` if there is none.
     pub fn uncancel(&self, alloc: Global, sub: u32) -> Result<Timeline, EditFault>
         requires there { sub < length self.now.subscriptions }
         ensures uncancelled { IfOk result (λ timeline. timeline ≡ uncancelled self.now sub) }
         ensures refused { IfSome (uncancel_fault self.now sub) (λ fault. result ≡ Err fault) }
-        ensures memory { uncancel_fault self.now sub ≡ None → IfErr result (λ fault. fault ≡ EditFault.NoMemory) }
+        ensures memory { uncancel_fault self.now sub ≡ None
+            → IfErr result (λ fault. fault ≡ EditFault.NoMemory) }
     {
         let subscription = self.subscription(sub).uncancelled(alloc)?;
         self.with_edited(alloc, sub, subscription)
@@ -182,7 +197,7 @@ impl Timeline {
     {
         if self.find(name).is_some() {
             Some(EditFault::SubscriptionExists)
-        } else if self.len() < MOST_SUBSCRIPTIONS {
+        } else if self.len() < MAX_SUBSCRIPTIONS {
             None
         } else {
             Some(EditFault::Limit(Limit::Subscriptions))
@@ -197,11 +212,12 @@ impl Timeline {
         subscription: Subscription,
     ) -> Result<Timeline, EditFault>
         requires there { sub < length self.now.subscriptions }
-        requires same { IfSome (slice_get self.now.subscriptions sub) (λ old. (subscription.name ≡ old.name) × (subscription.bundle ≡ old.bundle)) }
+        requires same { IfSome (slice_get self.now.subscriptions sub) (λ old.
+            (subscription.name ≡ old.name) × (subscription.bundle ≡ old.bundle)) }
         ensures edited { IfOk result (λ timeline. timeline ≡ with_edit self.now sub (λ _. subscription)) }
         ensures memory { IfErr result (λ fault. fault ≡ EditFault.NoMemory) }
     {
-        let bundles = Seq::from_vec(self.bundles().to_vec(alloc)?);
+        let bundles = same_names(alloc, self.bundles())?;
         let subscriptions = with_another(alloc, &self.subscriptions, sub, subscription)?;
         Ok(Timeline {
             bundles,
@@ -209,6 +225,3 @@ impl Timeline {
         })
     }
 }
-
-#[cfg(test)]
-mod tests;

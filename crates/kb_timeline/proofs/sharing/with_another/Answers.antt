@@ -11,7 +11,7 @@ index_mut-requires c =
     let count = ap length c.in_ok-edited.ensures.same in
     grind (arith, common_steps)
 
-pub returns-clause-edited : goal.returns-clause-edited
-returns-clause-edited c =
+pub returns : goal.returns
+returns c =
     let made = c.in_ok-edited-2.ensures.ok in
     rw (map-set, c.in_ok-edited.ensures.same, made) (sym (edited_at-set c.args.place c.args.subscription (map arc_value c.args.subscriptions.now)))
