@@ -9,7 +9,7 @@ use Rattle.std.proofs.lemmas.List.Sums.{fold-append}
 use Rattle.kb_blocking.specs.declared.state.BlockState.{BlockState}
 use Rattle.kb_blocking.specs.declared.stay.Stay.{Stay}
 use Rattle.kb_blocking.specs.Blocking.{same_matter, later_of, last_on}
-use Rattle.kb_blocking.specs.Stays.{is_before, has_day, cut_by, earlier_of, sooner, first_after, stay_of, with_stay, AreStays}
+use Rattle.kb_blocking.specs.Private.Stays.{is_before, has_day, cut_by, earlier_of, sooner, first_after, stay_of, with_stay, AreStays}
 use Rattle.kb_blocking.proofs.Matters.{same_matter-itself, same_matter-as}
 use Rattle.kb_blocking.proofs.CutStays.{cut_by-other, cut_by-before, cut_by-after}
 

@@ -8,7 +8,7 @@ use Rattle.kb_blocking.specs.declared.state.BlockState.{BlockState}
 use Rattle.kb_blocking.specs.declared.state.Chain.{Chain}
 use Rattle.kb_blocking.specs.declared.stay.Stay.{Stay}
 use Rattle.kb_blocking.specs.Blocking.{same_matter, is_on_chain, has_flag, blocks, last_on, is_on, differ, turns}
-use Rattle.kb_blocking.specs.Stays.{has_day, counts, counts_on, AreStays}
+use Rattle.kb_blocking.specs.Private.Stays.{has_day, counts, counts_on, AreStays}
 use Rattle.kb_blocking.proofs.Matters.{same_matter-itself, is_on_chain-as}
 use Rattle.kb_blocking.proofs.AddedStays.{states_of, held}
 

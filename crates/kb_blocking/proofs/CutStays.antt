@@ -4,7 +4,7 @@ use Rattle.std.proofs.lemmas.Bool.{and_parts, and_right, both_ways, leb-true, le
 use Rattle.kb_blocking.specs.declared.state.BlockState.{BlockState}
 use Rattle.kb_blocking.specs.declared.stay.Stay.{Stay}
 use Rattle.kb_blocking.specs.Blocking.{same_matter}
-use Rattle.kb_blocking.specs.Stays.{is_before, has_day, cut_by}
+use Rattle.kb_blocking.specs.Private.Stays.{is_before, has_day, cut_by}
 use Rattle.kb_blocking.proofs.Matters.{same_matter-through}
 
 -- a day before one that is before an end is before the end too
@@ -52,7 +52,8 @@ and_true : (one : Bool) → one ≡ (one && true)
 and_true true = refl
 and_true false = refl
 
--- from the day of the state on, one of its scope and service has the days that it had, if it begins later, and else none
+-- from the day of the state on, one of its scope and service has the days that it had, if it begins later,
+-- and else none
 pub cut_by-after : (state : BlockState) (day : ℕ) (stay : Stay) → state.day ≤ day
     → (same_matter state (cut_by state stay).state && has_day day (cut_by state stay))
     ≡ ((same_matter state stay.state && has_day day stay) && nat_lt state.day stay.state.day)

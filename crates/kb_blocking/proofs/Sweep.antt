@@ -6,8 +6,8 @@ use Rattle.std.proofs.lemmas.Bool.Decides.{nat_tests}
 use Rattle.std.proofs.lemmas.Bool.{leb-true, leb-false, lt-leb, ltb-true, lt-ltb, le-ltb, or_from, and_left}
 use Rattle.kb_blocking.specs.declared.stretch.Stretch.{Stretch}
 use Rattle.kb_blocking.specs.Blocking.{differ}
-use Rattle.kb_blocking.specs.Stays.{is_before}
-use Rattle.kb_blocking.specs.Stretches.{covers, touches, later_end, turns_from}
+use Rattle.kb_blocking.specs.Private.Stays.{is_before}
+use Rattle.kb_blocking.specs.Private.Stretches.{covers, touches, later_end, turns_from}
 
 -- stretches with days, in the order of their first days, of which none is before a day
 abbrev pub AreOrdered : ℕ → List Stretch → Type 0

@@ -12,8 +12,8 @@ use Rattle.kb_blocking.specs.declared.state.Chain.{Chain}
 use Rattle.kb_blocking.specs.declared.stay.Stay.{Stay}
 use Rattle.kb_blocking.specs.declared.stretch.Stretch.{Stretch}
 use Rattle.kb_blocking.specs.Blocking.{differ}
-use Rattle.kb_blocking.specs.Stays.{is_before, has_day, counts, counts_on}
-use Rattle.kb_blocking.specs.Stretches.{covers, stretch_of, stretches_of, turn_days}
+use Rattle.kb_blocking.specs.Private.Stays.{is_before, has_day, counts, counts_on}
+use Rattle.kb_blocking.specs.Private.Stretches.{covers, stretch_of, stretches_of, turn_days}
 use Rattle.kb_blocking.proofs.CutStays.{is_before-earlier}
 use Rattle.kb_blocking.proofs.Sweep.{AreOrdered, turned, turned-turns_from, AreRising, AreRising-turns_from}
 

@@ -10,8 +10,8 @@ use Rattle.kb_blocking.specs.declared.state.BlockState.{BlockState}
 use Rattle.kb_blocking.specs.declared.state.Chain.{Chain}
 
 -- the most states that there may be
-abbrev pub most_states : ℕ
-most_states = 4096
+abbrev pub max_states : ℕ
+max_states = 4096
 
 -- two scopes are the same
 abbrev pub same_scope : Scope → Scope → Bool
@@ -46,14 +46,16 @@ has_flag Change flags = flags.change
 has_flag Entitlement flags = flags.entitlement
 has_flag Billing flags = flags.billing
 
--- of what was found and a state that was accepted after it, the one with the later day; of equal days the later accepted
+-- of what was found and a state that was accepted after it, the one with the later day; of equal days the
+-- later accepted
 abbrev pub later_of : Option BlockState → BlockState → Option BlockState
 later_of None state = Some state
 later_of (Some found) state = if nat_le found.day state.day then Some state else Some found
 
 -- the last state of the scope and service of a state, dated on or before a day
 abbrev pub last_on : List BlockState → BlockState → ℕ → Option BlockState
-last_on states matter day = fold later_of None (filter (λ state. same_matter matter state && nat_le state.day day) states)
+last_on states matter day =
+    fold later_of None (filter (λ state. same_matter matter state && nat_le state.day day) states)
 
 -- a state is there, and has a flag on
 abbrev pub blocks : Flag → Option BlockState → Bool
@@ -63,7 +65,7 @@ blocks flag (Some state) = has_flag flag state.flags
 -- a flag is on for a chain on a day: of some scope on the chain and some service the last state has it on
 unfoldable pub is_on : List BlockState → Chain → Flag → ℕ → Bool
 is_on states chain flag day =
-    list_any (λ (state : BlockState). is_on_chain chain state.scope && blocks flag (last_on states state day)) states
+    list_any (λ state. is_on_chain chain state.scope && blocks flag (last_on states state day)) states
 
 -- two truths differ
 abbrev pub differ : Bool → Bool → Bool

@@ -1,4 +1,3 @@
 pub mod Blocking
+pub mod Private
 pub mod SmallBlocks
-pub mod Stays
-pub mod Stretches

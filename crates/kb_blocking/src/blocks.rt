@@ -1,6 +1,7 @@
-//! The blocking states of an account. Beside them stands how long each counts, so that a day is asked by one walk.
+//! The blocking states of an account. Beside them stands how long each counts, so that a day is asked by one
+//! walk.
 ghost use Rattle.std.specs.Prelude.{◌≡◌, ◌<◌, ◌≤◌, ◌↔◌, ◌++◌, ◌∷◌, [], ℕ, true, length, Contains, AllPairs, Err, IfOk, IfErr};
-ghost use Rattle.kb_blocking.specs.Blocking.{is_on, turns};
+ghost use Rattle.kb_blocking.specs.Blocking.{max_states, is_on, turns};
 
 use crate::stay::{Stay, is_any_on, with_stay};
 use crate::turning::turning_days;
@@ -12,9 +13,9 @@ use std::marker::Model;
 use thiserror::Error;
 
 /// The most states that there may be.
-const MOST_STATES: usize = 4096;
+pub const MAX_STATES: usize = 4096;
 
-/// The blocking states of an account, in the order in which they were accepted: at most 4,096.
+/// The blocking states of an account, in the order in which they were accepted: at most `MAX_STATES`.
 #[derive(Debug, Drop)]
 pub struct Blocks {
     states: Seq<BlockState>,
@@ -24,21 +25,21 @@ pub struct Blocks {
 impl Model for Blocks {
     ghost use Rattle.std.specs.Prelude.{◌≤◌, List, length};
     ghost use Rattle.kb_blocking.specs.declared.state.BlockState.{BlockState};
-    ghost use Rattle.kb_blocking.specs.Blocking.{most_states};
-    ghost use Rattle.kb_blocking.specs.Stays.{AreStays};
+    ghost use Rattle.kb_blocking.specs.Blocking.{max_states};
+    ghost use Rattle.kb_blocking.specs.Private.Stays.{AreStays};
 
     ghost Value = { List BlockState };
 
     ghost view = { λ blocks. blocks.states };
 
-    ghost invariant = { λ blocks. (length blocks.states ≤ most_states) × AreStays blocks.states blocks.stays };
+    ghost invariant = { λ blocks. (length blocks.states ≤ max_states) × AreStays blocks.states blocks.stays };
 }
 
 /// Why a state isn't added.
 #[derive(Clone, Copy, Debug, PartialEq, Eq, Error)]
 pub enum AddFault {
-    /// There are 4,096 states.
-    #[error("too many blocking states")]
+    /// There are `MAX_STATES` states.
+    #[error("the account has 4,096 blocking states and can take no more")]
     Limit,
     /// Memory ran out.
     #[error("out of memory")]
@@ -69,7 +70,7 @@ impl Blocks {
     /// The states, in the order in which they were accepted.
     pub fn states(&self) -> &[BlockState]
         ensures same { result.now ≡ self.now }
-        ensures few { length result.now ≤ 4096 }
+        ensures few { length result.now ≤ max_states }
     {
         self.states.as_slice()
     }
@@ -77,9 +78,9 @@ impl Blocks {
     /// The states with one more behind them.
     pub fn add(&self, alloc: Global, state: BlockState) -> Result<Blocks, AddFault>
         ensures added { IfOk result (λ blocks. blocks ≡ self.now ++ state ∷ []) }
-        ensures limit { (result ≡ Err AddFault.Limit) ↔ (length self.now ≡ 4096) }
+        ensures limit { (result ≡ Err AddFault.Limit) ↔ (length self.now ≡ max_states) }
     {
-        if self.states.len() == MOST_STATES {
+        if self.states.len() == MAX_STATES {
             return Err(AddFault::Limit);
         }
         let stays = with_stay(alloc, self.stays.as_slice(), &state)?;
@@ -114,10 +115,8 @@ fn with_state(
 {
     // The check has to see a day in a state that is pushed.
     let _day = state.day;
-    let mut longer = states.to_vec(alloc)?;
+    let mut longer = Vec::with_capacity(alloc, states.len() + 1)?;
+    longer.extend_from_slice(states)?;
     longer.push(state)?;
     Ok(Seq::from_vec(longer))
 }
-
-#[cfg(test)]
-mod tests;

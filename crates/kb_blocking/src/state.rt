@@ -3,7 +3,7 @@
 use kb_days::{Day, Name};
 
 /// What a blocking state speaks of: the account, or the bundle or subscription at a place of it.
-#[derive(Clone, Copy, Debug, PartialEq, Eq, Hash, PartialOrd, Ord)]
+#[derive(Clone, Copy, Debug)]
 pub enum Scope {
     Account,
     Bundle(u32),
@@ -11,9 +11,9 @@ pub enum Scope {
 }
 
 /// What a blocking state may block.
-#[derive(Clone, Copy, Debug, PartialEq, Eq, Hash, PartialOrd, Ord)]
+#[derive(Clone, Copy, Debug)]
 pub enum Flag {
-    /// Changes and cancellations.
+    /// New subscriptions and changes of plan. A cancellation isn't stopped by it.
     Change,
     /// The use of what was bought.
     Entitlement,
@@ -22,7 +22,7 @@ pub enum Flag {
 }
 
 /// Which of these are blocked.
-#[derive(Clone, Copy, Debug, PartialEq, Eq)]
+#[derive(Clone, Copy, Debug)]
 pub struct Flags {
     pub change: bool,
     pub entitlement: bool,
@@ -30,7 +30,7 @@ pub struct Flags {
 }
 
 /// A state of a service from a day on, until a later state of the same scope and service.
-#[derive(Clone, Copy, Debug, PartialEq, Eq)]
+#[derive(Clone, Copy, Debug)]
 pub struct BlockState {
     pub scope: Scope,
     pub service: Name,
@@ -39,8 +39,9 @@ pub struct BlockState {
     pub flags: Flags,
 }
 
-/// The bundle and the subscription, by their places, of which blocking states are looked at beside their account's.
-#[derive(Clone, Copy, Debug, PartialEq, Eq)]
+/// The bundle and the subscription, by their places, of which blocking states are looked at beside their
+/// account's.
+#[derive(Clone, Copy, Debug)]
 pub struct Chain {
     pub bundle: Option<u32>,
     pub subscription: Option<u32>,

@@ -1,7 +1,7 @@
 //! Stays: how long each state counts.
 ghost use Rattle.std.specs.Prelude.{◌≡◌, map, IfOk};
 ghost use Rattle.std.specs.List.{list_any};
-ghost use Rattle.kb_blocking.specs.Stays.{is_before, has_day, counts, counts_on, end_by, cut_by, earlier_of, sooner, first_after, with_stay};
+ghost use Rattle.kb_blocking.specs.Private.Stays.{is_before, has_day, counts, counts_on, end_by, cut_by, earlier_of, sooner, first_after, with_stay};
 
 use crate::chain::is_on_chain;
 use crate::flags::has_flag;
@@ -11,7 +11,8 @@ use kb_base::{NoMemory, Seq};
 use kb_days::Day;
 use std::alloc::Global;
 
-/// A state, and the day from which on a later one of its scope and service counts in its place, if there is one.
+/// A state, and the day from which on a later one of its scope and service counts in its place, if there is
+/// one.
 #[derive(Clone, Copy, Debug)]
 pub(crate) struct Stay {
     pub(crate) state: BlockState,
@@ -26,7 +27,8 @@ pub(crate) fn with_stay(
 ) -> Result<Seq<Stay>, NoMemory>
     ensures { IfOk result (λ longer. longer ≡ with_stay stays.now state.now) }
 {
-    let mut longer = stays.to_vec(alloc)?;
+    let mut longer = Vec::with_capacity(alloc, stays.len() + 1)?;
+    longer.extend_from_slice(stays)?;
     cut(&mut longer, state);
     longer.push(Stay {
         state: *state,
@@ -44,8 +46,8 @@ fn cut(stays: &mut [Stay], state: &BlockState)
     }
 }
 
-/// The end of a stay, where a state is accepted after it: the state's day, if it has the stay's scope and service and
-/// the stay has that day.
+/// The end of a stay, where a state is accepted after it: the state's day, if it has the stay's scope and
+/// service and the stay has that day.
 fn end_by(state: &BlockState, stay: &Stay) -> Option<Day>
     ensures { result ≡ end_by state.now stay.now }
 {
@@ -71,7 +73,7 @@ fn first_after(stays: &[Stay], state: &BlockState) -> Option<Day>
 fn sooner(state: &BlockState, found: Option<Day>, stay: &Stay) -> Option<Day>
     ensures { result ≡ sooner state.now found stay.now }
 {
-    if is_same_matter(state, &stay.state) && state.day < stay.state.day {
+    if state.day < stay.state.day && is_same_matter(state, &stay.state) {
         Some(earlier_of(found, stay.state.day))
     } else {
         found

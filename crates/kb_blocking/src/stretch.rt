@@ -1,6 +1,6 @@
 //! Stretches: runs of days on which a flag is on.
 ghost use Rattle.std.specs.Prelude.{◌≡◌, ◌<◌, All, Some, IfOk};
-ghost use Rattle.kb_blocking.specs.Stretches.{stretches_of, touches, later_end};
+ghost use Rattle.kb_blocking.specs.Private.Stretches.{stretches_of, touches, later_end};
 
 use crate::stay::{Stay, counts, has_day};
 use crate::{Chain, Flag};

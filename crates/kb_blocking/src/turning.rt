@@ -1,10 +1,11 @@
-//! The days on which a flag turns: where stretches that touch or overlap are one, the first day and the end of each.
+//! The days on which a flag turns: where stretches that touch or overlap are one, the first day and the end
+//! of each.
 ghost use Rattle.std.specs.Prelude.{◌≡◌, ◌<◌, ◌↔◌, ◌-◌, ℕ, true, Contains, AllPairs, IfOk, OnOk, ◌++◌, option_to_list};
 ghost use Rattle.std.specs.List.{list_any};
 ghost use Rattle.std.specs.List.Sorted.{IsPermutation, IsNonDecreasingBy};
 ghost use Rattle.kb_blocking.specs.Blocking.{differ};
-ghost use Rattle.kb_blocking.specs.Stays.{counts_on};
-ghost use Rattle.kb_blocking.specs.Stretches.{turn_days};
+ghost use Rattle.kb_blocking.specs.Private.Stays.{counts_on};
+ghost use Rattle.kb_blocking.specs.Private.Stretches.{turn_days};
 
 use crate::stay::Stay;
 use crate::stretch::{Stretch, later_end, stretches_of, touches};
@@ -21,7 +22,8 @@ pub(crate) fn turning_days(
     flag: Flag,
 ) -> Result<Vec<Day>, NoMemory>
     ensures exactly { IfOk result (λ days. (day : ℕ) → (Contains days.items day
-        ↔ (differ (list_any (counts_on chain flag day) stays.now) (list_any (counts_on chain flag (day - 1)) stays.now) ≡ true))) }
+        ↔ (differ (list_any (counts_on chain flag day) stays.now)
+        (list_any (counts_on chain flag (day - 1)) stays.now) ≡ true))) }
     ensures rising { IfOk result (λ days. AllPairs (λ earlier later. earlier < later) days.items) }
 {
     let mut stretches = stretches_of(alloc, stays, chain, flag)?;
@@ -38,8 +40,8 @@ fn sort(stretches: &mut Vec<Stretch>) -> Result<(), NoMemory>
     Ok(())
 }
 
-/// The first days and the ends, where stretches that touch or overlap are one; the stretches are in the order of their
-/// first days.
+/// The first days and the ends, where stretches that touch or overlap are one; the stretches are in the order
+/// of their first days.
 fn turn_days(alloc: Global, stretches: &[Stretch]) -> Result<Vec<Day>, NoMemory>
     ensures { IfOk result (λ days. days.items ≡ turn_days stretches.now) }
 {

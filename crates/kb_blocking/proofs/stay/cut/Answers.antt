@@ -1,5 +1,5 @@
 use Rattle.std.proofs.lemmas.List.Edits.{map_over_more}
-use Rattle.kb_blocking.specs.Stays.{cut_by}
+use Rattle.kb_blocking.specs.Private.Stays.{cut_by}
 use Rattle.kb_blocking.proofs.stay.cut.Goals as goal
 
 pub loop-stay-preserved : goal.loop-stay-preserved

@@ -1,6 +1,6 @@
 -- The stays that are left, from what was found, give what all give.
 use Rattle.std.proofs.Common.{◌≡◌, drop, fold}
-use Rattle.kb_blocking.specs.Stays.{sooner, first_after}
+use Rattle.kb_blocking.specs.Private.Stays.{sooner, first_after}
 use Rattle.kb_blocking.proofs.stay.first_after.Given as goal
 
 abbrev pub invariant-loop-stay : goal.invariant-loop-stay

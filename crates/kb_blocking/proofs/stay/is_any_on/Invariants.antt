@@ -1,7 +1,7 @@
 -- The stays that are left decide as all do.
 use Rattle.std.proofs.Common.{◌≡◌, drop}
 use Rattle.std.specs.List.{list_any}
-use Rattle.kb_blocking.specs.Stays.{counts_on}
+use Rattle.kb_blocking.specs.Private.Stays.{counts_on}
 use Rattle.kb_blocking.proofs.stay.is_any_on.Given as goal
 
 abbrev pub invariant-loop-stay : goal.invariant-loop-stay

@@ -1,7 +1,7 @@
 -- The stretches so far, and those of the stays that are left, are all.
 use Rattle.std.proofs.Common.{◌≡◌, ◌<◌, ◌++◌, drop, All}
 use Rattle.kb_blocking.specs.declared.stretch.Stretch.{Stretch}
-use Rattle.kb_blocking.specs.Stretches.{stretches_of}
+use Rattle.kb_blocking.specs.Private.Stretches.{stretches_of}
 use Rattle.kb_blocking.proofs.stretch.stretches_of.Given as goal
 
 abbrev pub invariant-loop-stay : goal.invariant-loop-stay

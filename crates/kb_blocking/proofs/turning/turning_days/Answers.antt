@@ -2,8 +2,8 @@ use Rattle.std.proofs.Common.{◌≡◌, ◌↔◌, ℕ, ◌-◌, ◌<◌, true,
 use Rattle.std.specs.List.{list_any}
 use Rattle.std.proofs.lemmas.Result.{IfOk-weaker}
 use Rattle.kb_blocking.specs.Blocking.{differ}
-use Rattle.kb_blocking.specs.Stays.{counts_on}
-use Rattle.kb_blocking.specs.Stretches.{turn_days}
+use Rattle.kb_blocking.specs.Private.Stays.{counts_on}
+use Rattle.kb_blocking.specs.Private.Stretches.{turn_days}
 use Rattle.kb_blocking.proofs.TurnDays.{AreSorted, turn_days-exactly, turn_days-pairs}
 use Rattle.kb_blocking.proofs.turning.turning_days.Goals as goal
 

@@ -2,7 +2,7 @@ use Rattle.std.proofs.Common.{◌≡◌, ◌↔◌, ℕ, ◌-◌, true, Contains
 use Rattle.std.specs.List.{list_any}
 use Rattle.std.proofs.lemmas.Result.{IfOk-weaker}
 use Rattle.kb_blocking.specs.Blocking.{differ, turns}
-use Rattle.kb_blocking.specs.Stays.{counts_on}
+use Rattle.kb_blocking.specs.Private.Stays.{counts_on}
 use Rattle.kb_blocking.proofs.CountedStays.{turns-counts_on}
 use Rattle.kb_blocking.proofs.blocks.Blocks.transitions.Goals as goal
 

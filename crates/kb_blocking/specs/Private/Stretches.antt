@@ -4,7 +4,7 @@ use Rattle.kb_blocking.specs.declared.state.Flag.{Flag}
 use Rattle.kb_blocking.specs.declared.state.Chain.{Chain}
 use Rattle.kb_blocking.specs.declared.stay.Stay.{Stay}
 use Rattle.kb_blocking.specs.declared.stretch.Stretch.{Stretch}
-use Rattle.kb_blocking.specs.Stays.{is_before, has_day, counts}
+use Rattle.kb_blocking.specs.Private.Stays.{is_before, has_day, counts}
 
 -- a stretch covers a day
 abbrev pub covers : ℕ → Stretch → Bool
@@ -16,7 +16,8 @@ stretch_of stay = record { from = stay.state.day; until = stay.until }
 
 -- the stretches of the stays of a chain that have a flag on and have a day at all
 abbrev pub stretches_of : Chain → Flag → List Stay → List Stretch
-stretches_of chain flag stays = map stretch_of (filter (λ (stay : Stay). counts chain flag stay && has_day stay.state.day stay) stays)
+stretches_of chain flag stays =
+    map stretch_of (filter (λ (stay : Stay). counts chain flag stay && has_day stay.state.day stay) stays)
 
 -- a stretch that begins on a day leaves no day after an end
 abbrev pub touches : Option ℕ → ℕ → Bool

@@ -1,0 +1,3 @@
+-- What private contracts and proofs cite, and no reader has to.
+pub mod Stays
+pub mod Stretches
