@@ -65,7 +65,8 @@ period_months-high Biennial n e = some_high 24 24 n e (omega arith)
 period_months-high NoBillingPeriod n e = absurd (none-some n e)
 
 -- one that isn't counted in days is counted in months, if there is one
-pub period_months-some : (period : Period) → (period ≡ NoBillingPeriod → ⊥) → period_days period ≡ None → IsSome (period_months period)
+pub period_months-some : (period : Period) → (period ≡ NoBillingPeriod → ⊥) → period_days period ≡ None
+    → IsSome (period_months period)
 period_months-some Daily billed e = absurd (cc)
 period_months-some Weekly billed e = absurd (cc)
 period_months-some Biweekly billed e = absurd (cc)
@@ -78,7 +79,8 @@ period_months-some Biennial billed e = refl
 period_months-some NoBillingPeriod billed e = absurd (billed refl)
 
 -- none is counted in both
-pub days_or_months : (period : Period) (days months : ℕ) → period_days period ≡ Some days → period_months period ≡ Some months → ⊥
+pub days_or_months : (period : Period) (days months : ℕ) → period_days period ≡ Some days
+    → period_months period ≡ Some months → ⊥
 days_or_months Daily days months d m = none-some months m
 days_or_months Weekly days months d m = none-some months m
 days_or_months Biweekly days months d m = none-some months m
@@ -90,4 +92,5 @@ days_or_months Annual days months d m = none-some days d
 days_or_months Biennial days months d m = none-some days d
 days_or_months NoBillingPeriod days months d m = none-some days d
 
-pub ruleset lengths = (period_days-low, period_days-high, period_months-low, period_months-high, period_months-some)
+pub ruleset lengths =
+    (period_days-low, period_days-high, period_months-low, period_months-high, period_months-some)

@@ -19,7 +19,8 @@ times-next count k q h =
     omega (arith, next)
 
 -- the boundaries of periods of days around a day
-pub day_boundaries : (count start day from : ℕ) → 0 < count → start ≤ day → from ≡ start + (day - start) / count * count
+pub day_boundaries : (count start day from : ℕ) → 0 < count → start ≤ day
+    → from ≡ start + (day - start) / count * count
     → IsBetween (IsDayBoundary count start) day from (from + count)
 day_boundaries count start day from some begun e = record {
   from_such = (q, e);
@@ -61,7 +62,8 @@ no_later count m n some e h =
 
 -- the boundaries of periods of months around a day
 pub month_boundaries : (count start bcd day first month last : ℕ) → 0 < count → IsFirstMonth start bcd first
-    → IsFirstMonth (day + 1) bcd (last + 1) → month % count ≡ first % count → month ≤ last → last < month + count
+    → IsFirstMonth (day + 1) bcd (last + 1) → month % count ≡ first % count → month ≤ last
+    → last < month + count
     → IsBetween (IsMonthBoundary count start bcd) day (mark month bcd) (mark (month + count) bcd)
 month_boundaries count start bcd day first month last some is next whole before near = record {
   from_such = (first, month, is, whole, refl);
@@ -73,11 +75,13 @@ month_boundaries count start bcd day first month last some is next whole before 
       omega (arith, order, late);
   greatest = λ other (f, m, first_is, aligned, marked) h.
       let known = IsFirstMonth-before (day + 1) bcd (last + 1) m next (omega (arith, marked, h)) in
-      let same : m % count ≡ month % count = aligned ∙ ap (λ n. n % count) (IsFirstMonth-only start bcd f first first_is is) ∙ sym whole in
+      let same : m % count ≡ month % count = aligned
+      ∙ ap (λ n. n % count) (IsFirstMonth-only start bcd f first first_is is) ∙ sym whole in
       let order = mark-order m month bcd (no_later count m month some same (omega arith)) in
       omega (arith, order, marked);
   least = λ other (f, m, first_is, aligned, marked) h.
-      let same : m % count ≡ month % count = aligned ∙ ap (λ n. n % count) (IsFirstMonth-only start bcd f first first_is is) ∙ sym whole in
+      let same : m % count ≡ month % count = aligned
+      ∙ ap (λ n. n % count) (IsFirstMonth-only start bcd f first first_is is) ∙ sym whole in
       elim (cases_lt m (month + count)) [
         | inl earlier ↦
             let low = no_later count m month some same earlier in
@@ -88,11 +92,13 @@ month_boundaries count start bcd day first month last some is next whole before 
 }
 
 -- a month less the remainder of its way from another one lies whole periods from that one
-pub whole_periods : (first count last gone : ℕ) → 0 < count → count ≤ last → first ≤ last + count → gone ≡ (last + count - first) % count
+pub whole_periods : (first count last gone : ℕ) → 0 < count → count ≤ last → first ≤ last + count
+    → gone ≡ (last + count - first) % count
     → (last - gone) % count ≡ first % count
 whole_periods first count last gone some low near e =
     let way : ℕ = last + count - first in
     let rest : gone < count = omega (arith, e) in
     let parts = div-add-mod way count in
     let sum : last - gone + count ≡ first + count * (way / count) = omega (arith, parts, e, rest) in
-    sym (add-mod_right (last - gone) count) ∙ ap (λ n. n % count) sum ∙ add-mul-mod_self_left first count (way / count)
+    sym (add-mod_right (last - gone) count) ∙ ap (λ n. n % count) sum
+    ∙ add-mul-mod_self_left first count (way / count)

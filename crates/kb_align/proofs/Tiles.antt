@@ -12,19 +12,24 @@ same_some : (a b : ℕ) → Some a ≡ Some b → a ≡ b
 same_some a b e = cc
 
 -- the boundaries of a period of days are those of its days
-IsBoundary-days : (start : ℕ) (period : Period) (bcd count day : ℕ) → period_days period ≡ Some count → IsBoundary start period bcd day → IsDayBoundary count start day
+IsBoundary-days : (start : ℕ) (period : Period) (bcd count day : ℕ) → period_days period ≡ Some count
+    → IsBoundary start period bcd day → IsDayBoundary count start day
 IsBoundary-days start period bcd count day e (inl (other, is, bound)) =
     subst (λ (n : ℕ). IsDayBoundary n start day) (same_some other count (sym is ∙ e)) bound
-IsBoundary-days start period bcd count day e (inr (months, is, bound)) = absurd (days_or_months period count months e is)
+IsBoundary-days start period bcd count day e (inr (months, is, bound)) =
+    absurd (days_or_months period count months e is)
 
 -- and those of a period of months are those of its months
-IsBoundary-months : (start : ℕ) (period : Period) (bcd count day : ℕ) → period_months period ≡ Some count → IsBoundary start period bcd day → IsMonthBoundary count start bcd day
-IsBoundary-months start period bcd count day e (inl (days, is, bound)) = absurd (days_or_months period days count is e)
+IsBoundary-months : (start : ℕ) (period : Period) (bcd count day : ℕ) → period_months period ≡ Some count
+    → IsBoundary start period bcd day → IsMonthBoundary count start bcd day
+IsBoundary-months start period bcd count day e (inl (days, is, bound)) =
+    absurd (days_or_months period days count is e)
 IsBoundary-months start period bcd count day e (inr (other, is, bound)) =
     subst (λ (n : ℕ). IsMonthBoundary n start bcd day) (same_some other count (sym is ∙ e)) bound
 
 -- a day lies in its period, if it lies between the boundaries of days
-pub IsPeriodOf-days : (start : ℕ) (period : Period) (bcd count day from to : ℕ) → period_days period ≡ Some count
+pub IsPeriodOf-days : (start : ℕ) (period : Period) (bcd count day from to : ℕ)
+    → period_days period ≡ Some count
     → IsBetween (IsDayBoundary count start) day from to → IsPeriodOf start period bcd day from to
 IsPeriodOf-days start period bcd count day from to e is = record {
   from_such = inl (count, e, is.from_such);
@@ -36,7 +41,8 @@ IsPeriodOf-days start period bcd count day from to e is = record {
 }
 
 -- or between those of months
-pub IsPeriodOf-months : (start : ℕ) (period : Period) (bcd count day from to : ℕ) → period_months period ≡ Some count
+pub IsPeriodOf-months : (start : ℕ) (period : Period) (bcd count day from to : ℕ)
+    → period_months period ≡ Some count
     → IsBetween (IsMonthBoundary count start bcd) day from to → IsPeriodOf start period bcd day from to
 IsPeriodOf-months start period bcd count day from to e is = record {
   from_such = inr (count, e, is.from_such);
@@ -48,8 +54,10 @@ IsPeriodOf-months start period bcd count day from to e is = record {
 }
 
 -- two periods of one start are one, or one lies before the other
-pub IsPeriodOf-tiles : (start : ℕ) (period : Period) (bcd day from to other first last : ℕ) → IsPeriodOf start period bcd day from to
-    → IsPeriodOf start period bcd other first last → ((first ≡ from) × (last ≡ to)) ⊎ (last ≤ from) ⊎ (to ≤ first)
+pub IsPeriodOf-tiles : (start : ℕ) (period : Period) (bcd day from to other first last : ℕ)
+    → IsPeriodOf start period bcd day from to
+    → IsPeriodOf start period bcd other first last
+    → ((first ≡ from) × (last ≡ to)) ⊎ (last ≤ from) ⊎ (to ≤ first)
 IsPeriodOf-tiles start period bcd day from to other first last is is_other =
     elim (cases_lt other from) [
       | inl before ↦ inr (inl (is_other.least from is.from_such before))

@@ -14,11 +14,12 @@ pub record IsFirstMonth (start bcd month : ℕ) : Type 0 where
 abbrev pub IsDayBoundary : ℕ → ℕ → ℕ → Type 0
 IsDayBoundary count start day = (times : ℕ) × (day ≡ start + times * count)
 
--- a boundary of a period of so many months: the cycle day of a month that lies whole periods before or after the first
--- one whose cycle day is on or after the start of the phase
+-- a boundary of a period of so many months: the cycle day of a month that lies whole periods before or after
+-- the first one whose cycle day is on or after the start of the phase
 abbrev pub IsMonthBoundary : ℕ → ℕ → ℕ → ℕ → Type 0
 IsMonthBoundary count start bcd day =
-    (first : ℕ) × (month : ℕ) × IsFirstMonth start bcd first × (month % count ≡ first % count) × (day ≡ mark month bcd)
+    (first : ℕ) × (month : ℕ) × IsFirstMonth start bcd first × (month % count ≡ first % count)
+    × (day ≡ mark month bcd)
 
 -- a boundary of the periods of a phase that starts on a day, billed by a cycle day
 abbrev pub IsBoundary : ℕ → Period → ℕ → ℕ → Type 0

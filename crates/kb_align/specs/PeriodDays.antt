@@ -1,13 +1,15 @@
 -- The period of a day as a search finds it, day by day.
 use Rattle.std.specs.Prelude.{ℕ, zero, suc, ◌+◌, ◌-◌, ◌%◌, ◌≡◌, Bool, false, ◌&&◌, nat_eq, nat_le, nat_lt, if◌then◌else◌, Option, Some, None, refl}
 use Rattle.kb_days.specs.Calendar.{mark, month_of, month_after, month_start, month_length}
+use Rattle.kb_days.specs.Dates.{january, february, march, april}
 use Rattle.kb_days.specs.Periods.{period_days, period_months}
 use Rattle.kb_days.specs.declared.period.Period.{Period}
 use Rattle.kb_days.specs.declared.period.Period.TheVariants.{Monthly, ThirtyDays}
 
 -- the first month whose day of this number lies on or after a start, by a look at the start's month
 unfoldable pub first_month : ℕ → ℕ → ℕ
-first_month start bcd = if nat_lt (mark (month_of start) bcd) start then month_of start + 1 else month_of start
+first_month start bcd =
+    if nat_lt (mark (month_of start) bcd) start then month_of start + 1 else month_of start
 
 -- whether a day is a boundary of the periods of a phase that starts on or before it
 abbrev pub is_day_boundary : ℕ → ℕ → ℕ → Bool
@@ -35,17 +37,25 @@ unfoldable pub next_day_after : (ℕ → Bool) → ℕ → ℕ → ℕ
 next_day_after test zero day = day
 next_day_after test (suc more) day = if test (day + 1) then day + 1 else next_day_after test more (day + 1)
 
--- the period of a day, day by day: back to the last boundary, and on to the next one, which comes within 731 days
+-- how many days a period may have: two years, one of which is a leap year
+abbrev pub max_period_days : ℕ
+max_period_days = 731
+
+-- the period of a day, day by day: back to the last boundary, and on to the next one
 unfoldable pub period_on : ℕ → Period → ℕ → ℕ → ℕ × ℕ
-period_on start period bcd day =
-    (last_day_on (is_boundary start period bcd) day, next_day_after (is_boundary start period bcd) 731 day)
+period_on start period bcd day = (
+  last_day_on (is_boundary start period bcd) day,
+  next_day_after (is_boundary start period bcd) max_period_days day,
+)
 
 -- by the 31st, the period of 15 February 2024 goes from 31 January to 29 February
-in_february : period_on 19753 Monthly 31 19768 ≡ (19753, 19782)
-unfolding period_on last_day_on next_day_after is_boundary first_month month_of month_after month_start month_length
+in_february : period_on (january 31) Monthly 31 (february 15) ≡ (january 31, february 29)
+unfolding
+    period_on last_day_on next_day_after is_boundary
+    first_month month_of month_after month_start month_length
 in_february = refl
 
--- and that of the days around 1 April 2024 by 30 days from 1 March on begins on 31 March
-thirty_days : period_on 19783 ThirtyDays 1 19814 ≡ (19813, 19843)
+-- and that of 1 April 2024 by 30 days from 1 March on begins on 31 March
+thirty_days : period_on (march 1) ThirtyDays 1 (april 1) ≡ (march 31, april 30)
 unfolding period_on last_day_on next_day_after is_boundary
 thirty_days = refl

@@ -1,7 +1,8 @@
 //! When phases start, and in which billing period a day lies.
 //!
-//! The rule kept here: phases follow one another from an anchor on, step by step, and billing periods lie between
-//! boundaries that no pause and no step of the code shifts. Layers above ask for the phase and the period of a day.
+//! The rule kept here: phases follow one another from an anchor on, step by step, and billing periods lie
+//! between boundaries that no pause and no step of the code shifts. Layers above ask for the phase and the
+//! period of a day.
 #![tactic(auto)]
 
 mod periods;

@@ -7,4 +7,5 @@ returns-else-lt-clause-next c =
     let month = c.month_of-month in
     let marked = rw month.ensures.value at c.mark.ensures.value in
     let late : c.mark.result ≤ c.args.day = grind arith in
-    IsFirstMonth-later c.args.day c.args.bcd (month.result + 1) (ap (λ n. n + 1) month.ensures.value) (omega (arith, marked, late))
+    IsFirstMonth-later c.args.day c.args.bcd (month.result + 1) (ap (λ n. n + 1) month.ensures.value)
+    (omega (arith, marked, late))

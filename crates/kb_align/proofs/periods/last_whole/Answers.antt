@@ -4,4 +4,5 @@ use Rattle.kb_align.proofs.periods.last_whole.Goals as goal
 
 pub returns-clause-whole : goal.returns-clause-whole
 returns-clause-whole c =
-    whole_periods c.args.first c.args.months c.args.last _ c.requires.some_month (omega arith) (omega arith) refl
+    whole_periods c.args.first c.args.months c.args.last _ c.requires.some_month (omega arith) (omega arith)
+    refl

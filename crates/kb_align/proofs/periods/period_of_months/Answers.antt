@@ -7,7 +7,9 @@ pub returns-clause-period : goal.returns-clause-period
 returns-clause-period c =
     let month = c.last_whole-month in
     rw (c.mark.ensures.value, c.mark-2.ensures.value)
-    (month_boundaries c.args.months c.args.start c.args.bcd c.args.day c.first_month.result month.result c.last_month.result c.requires.some_month c.first_month.ensures.first c.last_month.ensures.next month.ensures.whole month.ensures.before month.ensures.next)
+    (month_boundaries c.args.months c.args.start c.args.bcd c.args.day c.first_month.result month.result
+    c.last_month.result c.requires.some_month c.first_month.ensures.first c.last_month.ensures.next
+    month.ensures.whole month.ensures.before month.ensures.next)
 
 pub returns-clause-longest : goal.returns-clause-longest
 returns-clause-longest c =
