@@ -21,7 +21,8 @@ abbrev is_held : BlockState → Flag → ℕ → Stay → Bool
 is_held matter flag day stay = (same_matter matter stay.state && has_day day stay) && flagged flag stay.state
 
 -- what was found has a flag on where one of its list has
-blocks-any : (flag : Flag) (found : Option BlockState) → blocks flag found ≡ list_any (flagged flag) (option_to_list found)
+blocks-any : (flag : Flag) (found : Option BlockState)
+    → blocks flag found ≡ list_any (flagged flag) (option_to_list found)
 blocks-any flag None = refl
 blocks-any flag (Some found) = or_false (flagged flag found)
   where
@@ -31,13 +32,16 @@ blocks-any flag (Some found) = or_false (flagged flag found)
 
 -- a test of the states of the stays that pass another
 any-filter : (test : Stay → Bool) (other : BlockState → Bool) (stays : List Stay)
-    → list_any other (states_of (filter test stays)) ≡ list_any (λ (stay : Stay). test stay && other stay.state) stays
+    → list_any other (states_of (filter test stays))
+    ≡ list_any (λ (stay : Stay). test stay && other stay.state) stays
 any-filter test other [] = refl
 any-filter test other (stay ∷ later) = by_test (test stay) refl (any-filter test other later)
   where
     by_test : (one : Bool) → test stay ≡ one
-        → list_any other (states_of (filter test later)) ≡ list_any (λ (stay : Stay). test stay && other stay.state) later
-        → list_any other (states_of (filter test (stay ∷ later))) ≡ list_any (λ (stay : Stay). test stay && other stay.state) (stay ∷ later)
+        → list_any other (states_of (filter test later))
+        ≡ list_any (λ (stay : Stay). test stay && other stay.state) later
+        → list_any other (states_of (filter test (stay ∷ later)))
+        ≡ list_any (λ (stay : Stay). test stay && other stay.state) (stay ∷ later)
     by_test true is rest = simp is (ap (λ (found : Bool). other stay.state || found) rest)
     by_test false is rest = simp is rest
 
@@ -54,7 +58,8 @@ any-same test other same [] = refl
 any-same test other same (member ∷ later) = rw (same member, any-same test other same later) refl
 
 -- the last state of a scope and service has a flag on where a stay that has the day has
-blocks-last_on : (states : List BlockState) (stays : List Stay) (matter : BlockState) (flag : Flag) (day : ℕ) → AreStays states stays
+blocks-last_on : (states : List BlockState) (stays : List Stay) (matter : BlockState) (flag : Flag) (day : ℕ)
+    → AreStays states stays
     → blocks flag (last_on states matter day) ≡ list_any (is_held matter flag day) stays
 blocks-last_on states stays matter flag day are =
     blocks-any flag (last_on states matter day)
@@ -63,55 +68,74 @@ blocks-last_on states stays matter flag day are =
 
 -- a stay of the chain, with a stay of its scope and service that has the day and the flag on
 abbrev is_blocked_by : List Stay → Chain → Flag → ℕ → Stay → Bool
-is_blocked_by stays chain flag day stay = is_on_chain chain stay.state.scope && list_any (is_held stay.state flag day) stays
+is_blocked_by stays chain flag day stay =
+    is_on_chain chain stay.state.scope && list_any (is_held stay.state flag day) stays
 
 -- a flag is on where a stay of the chain has one of its scope and service that has the day and the flag on
-is_on-stays : (states : List BlockState) (stays : List Stay) (chain : Chain) (flag : Flag) (day : ℕ) → AreStays states stays
+is_on-stays : (states : List BlockState) (stays : List Stay) (chain : Chain) (flag : Flag) (day : ℕ)
+    → AreStays states stays
     → is_on states chain flag day ≡ list_any (is_blocked_by stays chain flag day) stays
 unfolding is_on
 is_on-stays states stays chain flag day are =
     any-same (λ (state : BlockState). is_on_chain chain state.scope && blocks flag (last_on states state day))
     (λ (state : BlockState). is_on_chain chain state.scope && list_any (is_held state flag day) stays)
-    (λ state. ap (λ (test : Bool). is_on_chain chain state.scope && test) (blocks-last_on states stays state flag day are)) states
-    ∙ ap (list_any (λ (state : BlockState). is_on_chain chain state.scope && list_any (is_held state flag day) stays)) (sym are.same)
-    ∙ any-states_of (λ (state : BlockState). is_on_chain chain state.scope && list_any (is_held state flag day) stays) stays
+    (λ state. ap (λ (test : Bool). is_on_chain chain state.scope && test) (blocks-last_on states stays state flag day are))
+    states
+    ∙ ap
+    (list_any (λ (state : BlockState). is_on_chain chain state.scope && list_any (is_held state flag day) stays))
+    (sym are.same)
+    ∙ any-states_of
+    (λ (state : BlockState). is_on_chain chain state.scope && list_any (is_held state flag day) stays) stays
 
 -- where a stay counts on the day, it is such a one itself
-blocked-counts : (stays : List Stay) (chain : Chain) (flag : Flag) (day : ℕ) → list_any (counts_on chain flag day) stays ≡ true
+blocked-counts : (stays : List Stay) (chain : Chain) (flag : Flag) (day : ℕ)
+    → list_any (counts_on chain flag day) stays ≡ true
     → list_any (is_blocked_by stays chain flag day) stays ≡ true
 blocked-counts stays chain flag day any =
     let found = Any-from_list_any (counts_on chain flag day) stays any in
     here found.0 found.1 found.2 found.3 found.4
   where
-    here : (place : ℕ) (stay : Stay) → place < length stays → get_or stays place stay ≡ stay → counts_on chain flag day stay ≡ true
+    here : (place : ℕ) (stay : Stay) → place < length stays → get_or stays place stay ≡ stay
+        → counts_on chain flag day stay ≡ true
         → list_any (is_blocked_by stays chain flag day) stays ≡ true
     here place stay within is counts =
-        let parts = and_parts (is_on_chain chain stay.state.scope && flagged flag stay.state) (has_day day stay) counts in
+        let parts =
+        and_parts (is_on_chain chain stay.state.scope && flagged flag stay.state) (has_day day stay) counts in
         let both = and_parts (is_on_chain chain stay.state.scope) (flagged flag stay.state) parts.0 in
         let held = and_from (same_matter stay.state stay.state && has_day day stay) (flagged flag stay.state)
-        (and_from (same_matter stay.state stay.state) (has_day day stay) (same_matter-itself stay.state) parts.1) both.1 in
-        let inner = list_any_at (is_held stay.state flag day) stays place stay within (ap (is_held stay.state flag day) is ∙ held) in
+        (and_from (same_matter stay.state stay.state) (has_day day stay) (same_matter-itself stay.state) parts.1)
+        both.1 in
+        let inner =
+        list_any_at (is_held stay.state flag day) stays place stay within
+        (ap (is_held stay.state flag day) is ∙ held) in
         list_any_at (is_blocked_by stays chain flag day) stays place stay within
         (ap (is_blocked_by stays chain flag day) is ∙ and_from (is_on_chain chain stay.state.scope) _ both.0 inner)
 
 -- and where there is such a one, the stay that has the day counts
-counts-blocked : (stays : List Stay) (chain : Chain) (flag : Flag) (day : ℕ) → list_any (is_blocked_by stays chain flag day) stays ≡ true
+counts-blocked : (stays : List Stay) (chain : Chain) (flag : Flag) (day : ℕ)
+    → list_any (is_blocked_by stays chain flag day) stays ≡ true
     → list_any (counts_on chain flag day) stays ≡ true
 counts-blocked stays chain flag day any =
     let found = Any-from_list_any (is_blocked_by stays chain flag day) stays any in
-    let parts = and_parts (is_on_chain chain found.1.state.scope) (list_any (is_held found.1.state flag day) stays) found.4 in
+    let parts =
+    and_parts (is_on_chain chain found.1.state.scope) (list_any (is_held found.1.state flag day) stays)
+    found.4 in
     let inner = Any-from_list_any (is_held found.1.state flag day) stays parts.1 in
     here found.1 parts.0 inner.0 inner.1 inner.2 inner.3 inner.4
   where
-    here : (matter : Stay) → is_on_chain chain matter.state.scope ≡ true → (place : ℕ) (stay : Stay) → place < length stays
-        → get_or stays place stay ≡ stay → is_held matter.state flag day stay ≡ true → list_any (counts_on chain flag day) stays ≡ true
+    here : (matter : Stay) → is_on_chain chain matter.state.scope ≡ true → (place : ℕ) (stay : Stay)
+        → place < length stays
+        → get_or stays place stay ≡ stay → is_held matter.state flag day stay ≡ true
+        → list_any (counts_on chain flag day) stays ≡ true
     here matter on place stay within is held =
-        let parts = and_parts (same_matter matter.state stay.state && has_day day stay) (flagged flag stay.state) held in
+        let parts =
+        and_parts (same_matter matter.state stay.state && has_day day stay) (flagged flag stay.state) held in
         let both = and_parts (same_matter matter.state stay.state) (has_day day stay) parts.0 in
         let also_on = sym (is_on_chain-as chain matter.state stay.state both.0) ∙ on in
         list_any_at (counts_on chain flag day) stays place stay within
         (ap (counts_on chain flag day) is
-        ∙ and_from (counts chain flag stay) (has_day day stay) (and_from (is_on_chain chain stay.state.scope) (flagged flag stay.state) also_on parts.1) both.1)
+        ∙ and_from (counts chain flag stay) (has_day day stay)
+        (and_from (is_on_chain chain stay.state.scope) (flagged flag stay.state) also_on parts.1) both.1)
 
 -- truths of which each gives the other are equal
 same_truth : (one other : Bool) → (one ≡ true → other ≡ true) → (other ≡ true → one ≡ true) → one ≡ other
@@ -120,15 +144,21 @@ same_truth false true there back = back refl
 same_truth false false there back = refl
 
 -- a flag is on for a chain on a day where a stay that has the day counts
-pub counts_on-is_on : (states : List BlockState) (stays : List Stay) (chain : Chain) (flag : Flag) (day : ℕ) → AreStays states stays
+pub counts_on-is_on : (states : List BlockState) (stays : List Stay) (chain : Chain) (flag : Flag) (day : ℕ)
+    → AreStays states stays
     → list_any (counts_on chain flag day) stays ≡ is_on states chain flag day
 counts_on-is_on states stays chain flag day are =
-    same_truth (list_any (counts_on chain flag day) stays) (list_any (is_blocked_by stays chain flag day) stays)
+    same_truth (list_any (counts_on chain flag day) stays)
+    (list_any (is_blocked_by stays chain flag day) stays)
     (blocked-counts stays chain flag day) (counts-blocked stays chain flag day)
     ∙ sym (is_on-stays states stays chain flag day are)
 
 -- so it turns where a stay counts on a day or on the day before, and not on both
-pub turns-counts_on : (states : List BlockState) (stays : List Stay) (chain : Chain) (flag : Flag) (day : ℕ) → AreStays states stays
-    → turns states chain flag day ≡ differ (list_any (counts_on chain flag day) stays) (list_any (counts_on chain flag (day - 1)) stays)
+pub turns-counts_on : (states : List BlockState) (stays : List Stay) (chain : Chain) (flag : Flag) (day : ℕ)
+    → AreStays states stays
+    → turns states chain flag day
+    ≡ differ (list_any (counts_on chain flag day) stays) (list_any (counts_on chain flag (day - 1)) stays)
 turns-counts_on states stays chain flag day are =
-    rw (counts_on-is_on states stays chain flag day are, counts_on-is_on states stays chain flag (day - 1) are) refl
+    rw
+    (counts_on-is_on states stays chain flag day are, counts_on-is_on states stays chain flag (day - 1) are)
+    refl

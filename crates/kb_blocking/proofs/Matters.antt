@@ -18,7 +18,8 @@ same_scope-is (Bundle place) (Bundle other) same = ap (λ p. Bundle p) (eqb-true
 same_scope-is (Bundle place) (Subscription other) same = absurd (cc)
 same_scope-is (Subscription place) Account same = absurd (cc)
 same_scope-is (Subscription place) (Bundle other) same = absurd (cc)
-same_scope-is (Subscription place) (Subscription other) same = ap (λ p. Subscription p) (eqb-true place other same)
+same_scope-is (Subscription place) (Subscription other) same =
+    ap (λ p. Subscription p) (eqb-true place other same)
 
 -- a scope is the same as itself
 same_scope-itself : (scope : Scope) → same_scope scope scope ≡ true
@@ -28,20 +29,27 @@ same_scope-itself (Subscription place) = eq-eqb place place refl
 
 -- a state has its own scope and service
 pub same_matter-itself : (state : BlockState) → same_matter state state ≡ true
-same_matter-itself state = and_from _ _ (same_scope-itself state.scope) ((bytes_eq-Decides state.service state.service).1 refl)
+same_matter-itself state =
+    and_from _ _ (same_scope-itself state.scope) ((bytes_eq-Decides state.service state.service).1 refl)
 
 -- of two states with one scope and service, what has those of one has those of the other
-pub same_matter-as : (matter state other : BlockState) → same_matter matter state ≡ true → same_matter matter other ≡ same_matter state other
+pub same_matter-as : (matter state other : BlockState) → same_matter matter state ≡ true
+    → same_matter matter other ≡ same_matter state other
 same_matter-as matter state other same =
     let parts = and_parts _ _ same in
-    rw (same_scope-is matter.scope state.scope parts.0, (bytes_eq-Decides matter.service state.service).0 parts.1) refl
+    rw
+    (same_scope-is matter.scope state.scope parts.0, (bytes_eq-Decides matter.service state.service).0 parts.1)
+    refl
 
 -- two states with the scope and service of a third have one
-pub same_matter-through : (matter state other : BlockState) → same_matter matter other ≡ true → same_matter state other ≡ true → same_matter matter state ≡ true
+pub same_matter-through : (matter state other : BlockState) → same_matter matter other ≡ true
+    → same_matter state other ≡ true → same_matter matter state ≡ true
 same_matter-through matter state other one two =
-    same_matter-as matter other state one ∙ sym (same_matter-as state other state two) ∙ same_matter-itself state
+    same_matter-as matter other state one ∙ sym (same_matter-as state other state two)
+    ∙ same_matter-itself state
 
 -- states with one scope and service are on the same chains
 pub is_on_chain-as : (chain : Chain) (matter state : BlockState) → same_matter matter state ≡ true
     → is_on_chain chain matter.scope ≡ is_on_chain chain state.scope
-is_on_chain-as chain matter state same = ap (is_on_chain chain) (same_scope-is matter.scope state.scope (and_parts _ _ same).0)
+is_on_chain-as chain matter state same =
+    ap (is_on_chain chain) (same_scope-is matter.scope state.scope (and_parts _ _ same).0)

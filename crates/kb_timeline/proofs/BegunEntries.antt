@@ -9,10 +9,12 @@ use Rattle.kb_timeline.proofs.Partitions.{filter-take, last_or-take}
 
 -- so many entries are dated on or before a day, and all others after it
 abbrev pub AreBegun : List Entry → ℕ → ℕ → Type 0
-AreBegun entries day count = IsPartitionPoint (λ (entry : Entry). entry.day ≤ day) (λ (entry : Entry). day < entry.day) entries count
+AreBegun entries day count =
+    IsPartitionPoint (λ (entry : Entry). entry.day ≤ day) (λ (entry : Entry). day < entry.day) entries count
 
 -- the days of entries don't fall
-pub IsNonDecreasingBy-entries : (entries : List Entry) → IsEntries entries → IsNonDecreasingBy (λ (entry : Entry). entry.day) entries
+pub IsNonDecreasingBy-entries : (entries : List Entry) → IsEntries entries
+    → IsNonDecreasingBy (λ (entry : Entry). entry.day) entries
 IsNonDecreasingBy-entries entries is i j d up within = by_place (cases_lt i j)
   where
     by_place : (i < j) ⊎ (j ≤ i) → (get_or entries i d).day ≤ (get_or entries j d).day
@@ -35,18 +37,24 @@ pub entry_on-none : (entries : List Entry) (day : ℕ) → AreBegun entries day 
 entry_on-none entries day begun = ap (last_or None) (filter-begun entries day 0 (omega arith) begun)
 
 -- the last entry dated on or before a day governs it
-pub entry_on-last : (entries : List Entry) (day place : ℕ) → place < length entries → AreBegun entries day (suc place)
+pub entry_on-last : (entries : List Entry) (day place : ℕ) → place < length entries
+    → AreBegun entries day (suc place)
     → entry_on entries day ≡ slice_get entries place
 entry_on-last entries day place within begun =
-    ap (last_or None) (filter-begun entries day (suc place) (omega arith) begun) ∙ last_or-take None entries place within
+    ap (last_or None) (filter-begun entries day (suc place) (omega arith) begun)
+    ∙ last_or-take None entries place within
 
 -- a day before all entries lies before the start
-pub is_before_start-none : (entries : List Entry) (day : ℕ) → 0 < length entries → AreBegun entries day 0 → is_before_start entries day ≡ true
+pub is_before_start-none : (entries : List Entry) (day : ℕ) → 0 < length entries → AreBegun entries day 0
+    → is_before_start entries day ≡ true
 is_before_start-none [] day some begun = absurd (omega arith)
-is_before_start-none (start ∷ changes) day some begun = lt-ltb day start.day (begun.1 0 start (omega arith) (omega arith))
+is_before_start-none (start ∷ changes) day some begun =
+    lt-ltb day start.day (begun.1 0 start (omega arith) (omega arith))
 
 -- a day on or after some entry doesn't
-pub is_before_start-some : (entries : List Entry) (day count : ℕ) → 0 < count → count ≤ length entries → AreBegun entries day count
+pub is_before_start-some : (entries : List Entry) (day count : ℕ) → 0 < count → count ≤ length entries
+    → AreBegun entries day count
     → is_before_start entries day ≡ false
 is_before_start-some [] day count some within begun = refl
-is_before_start-some (start ∷ changes) day count some within begun = le-ltb day start.day (begun.0 0 start (omega arith) (omega arith))
+is_before_start-some (start ∷ changes) day count some within begun =
+    le-ltb day start.day (begun.0 0 start (omega arith) (omega arith))

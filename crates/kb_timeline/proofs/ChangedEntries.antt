@@ -13,23 +13,28 @@ use Rattle.kb_timeline.proofs.Partitions.{filter-take}
 -- so many changes are dated before a day, and no other one
 abbrev pub AreEarlier : List Entry → ℕ → ℕ → Type 0
 AreEarlier changes day count =
-    IsPartitionPoint (λ (change : Entry). nat_lt change.day day ≡ true) (λ (change : Entry). nat_lt change.day day ≡ false) changes count
+    IsPartitionPoint (λ (change : Entry). nat_lt change.day day ≡ true)
+    (λ (change : Entry). nat_lt change.day day ≡ false) changes count
 
 -- a change leaves the start, and as many first changes as are dated before it
-pub kept_by_change-take : (entries : List Entry) (day count : ℕ) → 0 < length entries → count ≤ length (drop 1 entries)
+pub kept_by_change-take : (entries : List Entry) (day count : ℕ) → 0 < length entries
+    → count ≤ length (drop 1 entries)
     → AreEarlier (drop 1 entries) day count → kept_by_change day entries ≡ take (suc count) entries
 kept_by_change-take [] day count some within earlier = absurd (omega arith)
 kept_by_change-take (start ∷ changes) day count some within earlier =
-    ap (λ (kept : List Entry). start ∷ kept) (filter-take (λ (change : Entry). nat_lt change.day day) changes count within earlier)
+    ap (λ (kept : List Entry). start ∷ kept)
+    (filter-take (λ (change : Entry). nat_lt change.day day) changes count within earlier)
 
 -- the entries after a change that doesn't lie before the start
-pub IsEntries-with_change : (entries : List Entry) (change : Entry) → IsEntries entries → is_before_start entries change.day ≡ false
+pub IsEntries-with_change : (entries : List Entry) (change : Entry) → IsEntries entries
+    → is_before_start entries change.day ≡ false
     → length (with_change entries change) ≤ max_entries → IsEntries (with_change entries change)
 IsEntries-with_change [] change is begun limit = let some = is.started in absurd (omega arith)
 IsEntries-with_change (start ∷ changes) change is begun limit =
     record {
       started = omega arith;
-      begun = AllPairs-cons (λ (earlier later : Entry). earlier.day ≤ later.day) start later behind (λ i j d below within. let less = rise i j d below within in omega arith);
+      begun =
+          AllPairs-cons (λ (earlier later : Entry). earlier.day ≤ later.day) start later behind (λ i j d below within. let less = rise i j d below within in omega arith);
       rising = rise;
       limit = limit;
     }

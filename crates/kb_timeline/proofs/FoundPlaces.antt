@@ -6,27 +6,35 @@ use Rattle.std.proofs.lemmas.Option.{none-some}
 
 module _ {A : Type 0} (test : A → Bool) where
   -- where none is found each member fails
-  pub position_from-none : (start : ℕ) (members : List A) → position_from test start members ≡ None → All (λ (member : A). test member ≡ false) members
+  pub position_from-none : (start : ℕ) (members : List A) → position_from test start members ≡ None
+      → All (λ (member : A). test member ≡ false) members
   position_from-none start [] none = All-nil (λ (member : A). test member ≡ false)
-  position_from-none start (member ∷ later) none = by_test (test member) refl (position_from-none (start + 1) later)
+  position_from-none start (member ∷ later) none =
+      by_test (test member) refl (position_from-none (start + 1) later)
     where
-      by_test : (passes : Bool) → test member ≡ passes → (position_from test (start + 1) later ≡ None → All (λ (other : A). test other ≡ false) later)
+      by_test : (passes : Bool) → test member ≡ passes
+          → (position_from test (start + 1) later ≡ None → All (λ (other : A). test other ≡ false) later)
           → All (λ (other : A). test other ≡ false) (member ∷ later)
       by_test true is rest = let found = rw is at none in absurd (cc)
-      by_test false is rest = All-cons (λ (other : A). test other ≡ false) member later is (rest (rw is at none))
+      by_test false is rest =
+          All-cons (λ (other : A). test other ≡ false) member later is (rest (rw is at none))
 
   -- where one is found its place is among the members
-  pub position_from-within : (start place : ℕ) (members : List A) → position_from test start members ≡ Some place → place < start + length members
+  pub position_from-within : (start place : ℕ) (members : List A)
+      → position_from test start members ≡ Some place → place < start + length members
   position_from-within start place [] found = absurd (none-some place found)
-  position_from-within start place (member ∷ later) found = by_test (test member) refl (position_from-within (start + 1) place later)
+  position_from-within start place (member ∷ later) found =
+      by_test (test member) refl (position_from-within (start + 1) place later)
     where
-      by_test : (passes : Bool) → test member ≡ passes → (position_from test (start + 1) later ≡ Some place → place < start + 1 + length later)
+      by_test : (passes : Bool) → test member ≡ passes
+          → (position_from test (start + 1) later ≡ Some place → place < start + 1 + length later)
           → place < start + length (member ∷ later)
       by_test true is rest = let here : start ≡ place = let there = rw is at found in cc in omega arith
       by_test false is rest = let behind = rest (rw is at found) in omega arith
 
   -- where one is found its place isn't before the first
-  position_from-low : (start place : ℕ) (members : List A) → position_from test start members ≡ Some place → start ≤ place
+  position_from-low : (start place : ℕ) (members : List A) → position_from test start members ≡ Some place
+      → start ≤ place
   position_from-low start place [] found = absurd (none-some place found)
   position_from-low start place (member ∷ later) found =
       by_test (test member) refl (position_from-low (start + 1) place later)
@@ -37,7 +45,8 @@ module _ {A : Type 0} (test : A → Bool) where
       by_test false is rest = let behind = rest (rw is at found) in omega arith
 
   -- the member that is found passes, and none before it does
-  pub position_from-first : (start count : ℕ) (members : List A) → position_from test start members ≡ Some (start + count)
+  pub position_from-first : (start count : ℕ) (members : List A)
+      → position_from test start members ≡ Some (start + count)
       → IfSome (slice_get members count) (λ (member : A). test member ≡ true)
       × All (λ (member : A). test member ≡ false) (take count members)
   position_from-first start count [] found = absurd (none-some (start + count) found)
@@ -47,7 +56,8 @@ module _ {A : Type 0} (test : A → Bool) where
       by_test : (passes : Bool) → test member ≡ passes → test member ≡ true
       by_test true is = is
       by_test false is =
-          let low = position_from-low (start + 1) (start + zero) later (rw is at found) in absurd (omega arith)
+          let low =
+          position_from-low (start + 1) (start + zero) later (rw is at found) in absurd (omega arith)
   position_from-first start (suc count) (member ∷ later) found =
       by_test (test member) refl (position_from-first (start + 1) count later)
     where

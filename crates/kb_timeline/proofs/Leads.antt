@@ -12,7 +12,8 @@ of_bundle None bundle is = tt
 of_bundle (Some sub) bundle is = eqb-true sub.bundle bundle is
 
 -- the place of a bundle's lead is that of its first subscription
-pub lead_of-first : (timeline : TimelineValue) (bundle : ℕ) (found : Option ℕ) → found ≡ lead_of timeline bundle
+pub lead_of-first : (timeline : TimelineValue) (bundle : ℕ) (found : Option ℕ)
+    → found ≡ lead_of timeline bundle
     → IfSome found (λ place. IsLead timeline bundle place)
 lead_of-first timeline bundle None e = tt
 lead_of-first timeline bundle (Some place) e =

@@ -4,4 +4,5 @@ use Rattle.kb_blocking.specs.Private.Stays.{sooner, first_after}
 use Rattle.kb_blocking.proofs.stay.first_after.Given as goal
 
 abbrev pub invariant-loop-stay : goal.invariant-loop-stay
-invariant-loop-stay l = fold (sooner l.state) l.found (drop l.stay-index l.stays) ≡ first_after l.stays l.state
+invariant-loop-stay l =
+    fold (sooner l.state) l.found (drop l.stay-index l.stays) ≡ first_after l.stays l.state

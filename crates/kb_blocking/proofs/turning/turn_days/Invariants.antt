@@ -4,4 +4,5 @@ use Rattle.kb_blocking.specs.Private.Stretches.{turns_from, turn_days}
 use Rattle.kb_blocking.proofs.turning.turn_days.Given as goal
 
 abbrev pub invariant-loop-stretch : goal.invariant-loop-stretch
-invariant-loop-stretch l = l.days.items ++ turns_from l.until (drop l.stretch-index l.later) ≡ turn_days l.fn.stretches
+invariant-loop-stretch l =
+    l.days.items ++ turns_from l.until (drop l.stretch-index l.later) ≡ turn_days l.fn.stretches

@@ -14,4 +14,5 @@ index_mut-requires c =
 pub returns : goal.returns
 returns c =
     let made = c.in_ok-edited-2.ensures.ok in
-    rw (map-set, c.in_ok-edited.ensures.same, made) (sym (edited_at-set c.args.place c.args.subscription (map arc_value c.args.subscriptions.now)))
+    rw (map-set, c.in_ok-edited.ensures.same, made)
+    (sym (edited_at-set c.args.place c.args.subscription (map arc_value c.args.subscriptions.now)))

@@ -11,7 +11,10 @@ pub invariant_of-result : goal.invariant_of-result
 invariant_of-result c =
     let entries = c.args.self.now in
     let same : c.in_ok-items.items ≡ with_change entries c.args.change = grind (arith, common_steps) in
-    let sound = subst (λ (all : List Entry). IsEntries all) c.as_slice.ensures.same c.as_slice.ensures.sound in
+    let sound =
+    subst (λ (all : List Entry). IsEntries all) c.as_slice.ensures.same c.as_slice.ensures.sound in
     let room : length (with_change entries c.args.change) ≤ max_entries =
-    omega (arith, length_push (kept_by_change c.args.change.day entries) c.args.change, ap length c.count_kept-kept.ensures.kept, length-take c.count_kept-kept.result entries, sound.limit) in
-    subst (λ (all : List Entry). IsEntries all) (sym same) (IsEntries-with_change entries c.args.change sound c.requires.begun room)
+    omega
+    (arith, length_push (kept_by_change c.args.change.day entries) c.args.change, ap length c.count_kept-kept.ensures.kept, length-take c.count_kept-kept.result entries, sound.limit) in
+    subst (λ (all : List Entry). IsEntries all) (sym same)
+    (IsEntries-with_change entries c.args.change sound c.requires.begun room)

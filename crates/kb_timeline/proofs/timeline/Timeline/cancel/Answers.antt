@@ -7,5 +7,9 @@ use Rattle.kb_timeline.proofs.timeline.Timeline.cancel.Goals as goal
 
 pub returns-clause-cancelled : goal.returns-clause-cancelled
 returns-clause-cancelled c =
-    let same = with_edit-there c.args.self.now c.args.sub (cancel_of c.args.day) c.subscription.result.now c.in_ok-subscription.subscription c.subscription.ensures.member c.in_ok-subscription.ensures.cancelled in
-    subst (λ (value : TimelineValue). IfOk c.with_edited.result (λ (timeline : TimelineValue). timeline ≡ value)) same c.with_edited.ensures.edited
+    let same =
+    with_edit-there c.args.self.now c.args.sub (cancel_of c.args.day) c.subscription.result.now
+    c.in_ok-subscription.subscription c.subscription.ensures.member c.in_ok-subscription.ensures.cancelled in
+    subst
+    (λ (value : TimelineValue). IfOk c.with_edited.result (λ (timeline : TimelineValue). timeline ≡ value))
+    same c.with_edited.ensures.edited

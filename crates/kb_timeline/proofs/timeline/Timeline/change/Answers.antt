@@ -7,5 +7,9 @@ use Rattle.kb_timeline.proofs.timeline.Timeline.change.Goals as goal
 
 pub returns-clause-changed : goal.returns-clause-changed
 returns-clause-changed c =
-    let same = with_edit-there c.args.self.now c.args.sub (change_of c.args.entry) c.subscription.result.now c.in_ok-subscription.subscription c.subscription.ensures.member c.in_ok-subscription.ensures.changed in
-    subst (λ (value : TimelineValue). IfOk c.with_edited.result (λ (timeline : TimelineValue). timeline ≡ value)) same c.with_edited.ensures.edited
+    let same =
+    with_edit-there c.args.self.now c.args.sub (change_of c.args.entry) c.subscription.result.now
+    c.in_ok-subscription.subscription c.subscription.ensures.member c.in_ok-subscription.ensures.changed in
+    subst
+    (λ (value : TimelineValue). IfOk c.with_edited.result (λ (timeline : TimelineValue). timeline ≡ value))
+    same c.with_edited.ensures.edited

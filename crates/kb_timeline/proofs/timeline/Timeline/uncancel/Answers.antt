@@ -7,5 +7,10 @@ use Rattle.kb_timeline.proofs.timeline.Timeline.uncancel.Goals as goal
 
 pub returns-clause-uncancelled : goal.returns-clause-uncancelled
 returns-clause-uncancelled c =
-    let same = with_edit-there c.args.self.now c.args.sub uncancel_of c.subscription.result.now c.in_ok-subscription.subscription c.subscription.ensures.member c.in_ok-subscription.ensures.uncancelled in
-    subst (λ (value : TimelineValue). IfOk c.with_edited.result (λ (timeline : TimelineValue). timeline ≡ value)) same c.with_edited.ensures.edited
+    let same =
+    with_edit-there c.args.self.now c.args.sub uncancel_of c.subscription.result.now
+    c.in_ok-subscription.subscription c.subscription.ensures.member
+    c.in_ok-subscription.ensures.uncancelled in
+    subst
+    (λ (value : TimelineValue). IfOk c.with_edited.result (λ (timeline : TimelineValue). timeline ≡ value))
+    same c.with_edited.ensures.edited

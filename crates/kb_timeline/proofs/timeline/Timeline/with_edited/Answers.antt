@@ -9,7 +9,8 @@ use Rattle.kb_timeline.proofs.timeline.Timeline.with_edited.Goals as goal
 pub invariant_of-result : goal.invariant_of-result
 invariant_of-result c =
     let edited = with_edit c.args.self.now c.args.sub (λ (old : Subscription). c.args.subscription) in
-    let value : TimelineValue = record { bundles = c.in_ok-bundles.bundles; subscriptions = map arc_value c.in_ok-subscriptions.subscriptions.items } in
+    let value : TimelineValue =
+    record { bundles = c.in_ok-bundles.bundles; subscriptions = map arc_value c.in_ok-subscriptions.subscriptions.items } in
     let same : value ≡ edited = search rules in
     let sound = subst (λ (timeline : TimelineValue). IsTimeline timeline) c.self.view_is c.self.invariant in
     subst (λ (timeline : TimelineValue). IsTimeline timeline) (sym same)
