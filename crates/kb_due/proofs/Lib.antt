@@ -2,3 +2,4 @@ pub mod FirstCells
 pub mod Periods
 pub mod KeptDays
 pub mod CountedPhases
+pub mod DueCells

@@ -8,8 +8,8 @@ use Rattle.kb_due.specs.declared.entitlement.Entitlement.TheVariants.{Pending, A
 use Rattle.kb_due.specs.Facts.{FactsValue, subscription_at, chain_of}
 use Rattle.kb_due.specs.Life.{has_started, is_live_of}
 
--- a subscription is pending before its start, cancelled where it isn't live from then on, blocked where the entitlement
--- flag is on, and else active
+-- a subscription is pending before its start, cancelled where it isn't live from then on, blocked where the
+-- entitlement flag is on, and else active
 unfoldable pub state_of : FactsValue → Subscription → ℕ → ℕ → Entitlement
 state_of facts subscription sub day =
     if not (has_started subscription.entries day) then Pending
@@ -19,4 +19,5 @@ state_of facts subscription sub day =
 
 -- the subscription at a place
 abbrev pub state_on : FactsValue → ℕ → ℕ → Option Entitlement
-state_on facts sub day = option_map (λ (subscription : Subscription). state_of facts subscription sub day) (subscription_at facts sub)
+state_on facts sub day = option_map (λ (subscription : Subscription). state_of facts subscription sub day)
+    (subscription_at facts sub)

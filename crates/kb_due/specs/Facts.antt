@@ -6,7 +6,8 @@ use Rattle.kb_timeline.specs.TimelineEdits.{TimelineValue}
 use Rattle.kb_blocking.specs.declared.state.BlockState.{BlockState}
 use Rattle.kb_blocking.specs.declared.state.Chain.{Chain}
 
--- the versions of the catalog, and of an account its subscriptions, its blocking states, its currency and its cycle day
+-- the versions of the catalog, and of an account its subscriptions, its blocking states, its currency and its
+-- cycle day
 pub record FactsValue : Type 0 where
   pub catalog : List Version
   pub timeline : TimelineValue

@@ -48,11 +48,19 @@ abbrev pub governing_phase : Entry → Choice → PhaseAt → Option Governing
 governing_phase entry choice at = option_map with_phase (slice_get choice.plan.phases at.index)
   where
     with_phase : Phase → Governing
-    with_phase phase = record { entry = entry; choice = choice; place = at.index; start = at.start; phase = phase }
+    with_phase phase = record {
+      entry = entry;
+      choice = choice;
+      place = at.index;
+      start = at.start;
+      phase =
+          phase;
+    }
 
 -- what governs a day by what an entry chose
 abbrev pub governing_choice : Entry → ℕ → Choice → Option Governing
-governing_choice entry day choice = option_and_then (governing_phase entry choice) (phase_on entry.anchor (spans_of choice.plan) day)
+governing_choice entry day choice =
+    option_and_then (governing_phase entry choice) (phase_on entry.anchor (spans_of choice.plan) day)
 
 -- what governs a day by an entry
 abbrev pub governing_by : List Version → Entry → ℕ → Option Governing
@@ -60,9 +68,10 @@ governing_by catalog entry day = option_and_then (governing_choice entry day) (c
 
 -- what governs a day of a subscription with these entries: none before the start
 abbrev pub governing_on : List Version → List Entry → ℕ → Option Governing
-governing_on catalog entries day = option_and_then (λ entry. governing_by catalog entry day) (entry_on entries day)
+governing_on catalog entries day =
+    option_and_then (λ entry. governing_by catalog entry day) (entry_on entries day)
 
--- the phase and the entry that govern a day begin on or before it, and the phase no earlier than the days that commands
--- name
+-- the phase and the entry that govern a day begin on or before it, and the phase no earlier than the days
+-- that commands name
 abbrev pub IsBegun : Governing → ℕ → Type 0
 IsBegun governing day = (first_day ≤ governing.start) × (governing.start ≤ day) × (governing.entry.day ≤ day)

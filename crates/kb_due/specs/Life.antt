@@ -1,5 +1,6 @@
 -- When a subscription is live.
-use Rattle.std.specs.Prelude.{ℕ, ◌+◌, ◌-◌, Bool, false, not, ◌&&◌, ◌||◌, nat_le, List, [], ◌∷◌, Option, Some, None, option_and_then}
+use Rattle.std.specs.Prelude.{ℕ, ◌+◌, ◌-◌, Bool, false, not, ◌&&◌, ◌||◌, nat_le, List, [], ◌∷◌, Option, Some}
+use Rattle.std.specs.Prelude.{None, option_and_then}
 use Rattle.std.specs.List.{list_all, range_with_len}
 use Rattle.kb_catalog.specs.declared.version.Version.{Version}
 use Rattle.kb_catalog.specs.declared.version.Product.{Product}
@@ -23,11 +24,13 @@ is_cancelled (Some cancel) day = nat_le cancel day
 
 -- a subscription runs on a day: it has started, and isn't cancelled by then
 abbrev pub is_running : Subscription → ℕ → Bool
-is_running subscription day = has_started subscription.entries day && not (is_cancelled subscription.cancel day)
+is_running subscription day = has_started subscription.entries day
+    && not (is_cancelled subscription.cancel day)
 
 -- what the entry that governs a day chose
 abbrev pub choice_on : List Version → List Entry → ℕ → Option Choice
-choice_on catalog entries day = option_and_then (λ (entry : Entry). choice_of catalog entry.plan) (entry_on entries day)
+choice_on catalog entries day =
+    option_and_then (λ (entry : Entry). choice_of catalog entry.plan) (entry_on entries day)
 
 -- the add-ons that may be had with the product of a plan
 abbrev pub available_with : Choice → List (List ℕ)
@@ -37,9 +40,11 @@ available_with choice = of_product (product_named choice.version choice.plan.pro
     of_product None = []
     of_product (Some product) = product.available
 
--- on a day, the lead's product has an add-on's product among its available ones, by the version of the lead's entry
+-- on a day, the lead's product has an add-on's product among its available ones, by the version of the lead's
+-- entry
 abbrev pub is_offered : List Version → Subscription → Subscription → ℕ → Bool
-is_offered catalog lead addon day = of_both (choice_on catalog lead.entries day) (choice_on catalog addon.entries day)
+is_offered catalog lead addon day =
+    of_both (choice_on catalog lead.entries day) (choice_on catalog addon.entries day)
   where
     of_both : Option Choice → Option Choice → Bool
     of_both None addon = false
@@ -66,13 +71,16 @@ is_kept_by catalog (Some lead) addon day = is_kept catalog lead addon day
 
 -- the lead of a subscription's bundle
 abbrev pub lead_subscription : FactsValue → Subscription → Option Subscription
-lead_subscription facts subscription = option_and_then (subscription_at facts) (lead_of facts.timeline subscription.bundle)
+lead_subscription facts subscription =
+    option_and_then (subscription_at facts) (lead_of facts.timeline subscription.bundle)
 
--- a subscription is live on a day: it runs, and as an add-on it has been kept by its lead on every day since its start
+-- a subscription is live on a day: it runs, and as an add-on it has been kept by its lead on every day since
+-- its start
 abbrev pub is_live_of : FactsValue → Subscription → ℕ → Bool
 is_live_of facts subscription day =
     is_running subscription day
-    && (not subscription.addon || is_kept_by facts.catalog (lead_subscription facts subscription) subscription day)
+    && (not subscription.addon || is_kept_by facts.catalog (lead_subscription facts subscription) subscription
+    day)
 
 -- the subscription at a place is live
 abbrev pub is_live : FactsValue → ℕ → ℕ → Bool

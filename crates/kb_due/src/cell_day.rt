@@ -1,10 +1,9 @@
 //! The cell of a day.
-ghost use Rattle.std.specs.Prelude.{◌≡◌, ◌<◌, ◌≤◌, ◌+◌, IfSome};
-ghost use Rattle.kb_days.specs.Calendar.{first_day};
+ghost use Rattle.std.specs.Prelude.{None, ◌≡◌, ◌<◌, ◌≤◌, ◌+◌, IfSome};
+ghost use Rattle.kb_days.specs.Calendar.{first_day, last_charged, end_of_days};
 ghost use Rattle.kb_align.specs.Boundaries.{IsPeriodOf};
 ghost use Rattle.kb_due.specs.CycleDays.{cycle_day};
-ghost use Rattle.kb_due.specs.Cells.{is_unbilled, cell_by, cell_on};
-ghost use Rattle.kb_due.specs.DueDays.{last_billed};
+ghost use Rattle.kb_due.specs.Cells.{max_period_days, is_unbilled, cell_by, cell_on};
 
 use crate::chain::chain_of;
 use crate::cycle_day::cycle_day;
@@ -13,17 +12,21 @@ use crate::life::is_live;
 use crate::{Cell, Facts};
 use kb_align::period_of;
 use kb_blocking::Flag;
-use kb_days::{Period, Reach};
+use kb_days::{LAST_CHARGED, Period, Reach};
 use kb_timeline::Subscription;
 
-/// The cell of a day of a subscription: none where it isn't live, or its billing is blocked.
+/// The cell of a day of a subscription: none after the last day that may be charged, where it isn't live, or
+/// where its billing is blocked.
 #[tactic(auto, unfolding(crate::specs::Cells::cell_on))]
 pub fn cell_on(facts: &Facts, subscription: &Subscription, sub: u32, day: Reach) -> Option<Cell>
-    requires told { day ≤ last_billed }
     ensures value { result ≡ cell_on facts.now subscription.now sub day }
     ensures has_day { IfSome result (λ cell. (cell.start ≤ day) × (day < cell.end)) }
-    ensures longest { IfSome result (λ cell. cell.end ≤ cell.start + 731) }
+    ensures longest { IfSome result (λ cell. cell.end ≤ cell.start + max_period_days) }
+    ensures late { end_of_days ≤ day → result ≡ None }
 {
+    if LAST_CHARGED < day.number() {
+        return None;
+    }
     if !is_live(facts, subscription, day) || is_unbilled(facts, subscription, sub, day) {
         return None;
     }
@@ -49,12 +52,12 @@ pub fn cell_by(
 ) -> Option<Cell>
     requires named { first_day ≤ governing.now.start }
     requires begun { governing.now.start ≤ day }
-    requires told { day ≤ last_billed }
+    requires told { day ≤ last_charged }
     ensures value { result ≡ cell_by facts.now subscription.now day governing.now }
     ensures period { IfSome result (λ cell. IsPeriodOf governing.now.start governing.now.phase.period
         (cycle_day facts.now subscription.now governing.now) day cell.start cell.end) }
     ensures has_day { IfSome result (λ cell. (cell.start ≤ day) × (day < cell.end)) }
-    ensures longest { IfSome result (λ cell. cell.end ≤ cell.start + 731) }
+    ensures longest { IfSome result (λ cell. cell.end ≤ cell.start + max_period_days) }
 {
     if matches!(governing.phase.period, Period::NoBillingPeriod) {
         return None;

@@ -1,5 +1,6 @@
 //! The cycle day by which a day is billed.
-ghost use Rattle.std.specs.Prelude.{◌≡◌, is_some, find, Some, unwrap_or, option_map, option_copied, option_and_then};
+ghost use Rattle.std.specs.Prelude.{◌≡◌, is_some, find, Some, unwrap_or, option_map, option_copied};
+ghost use Rattle.std.specs.Prelude.{option_and_then};
 ghost use Rattle.kb_catalog.specs.declared.version.Phase.{Phase};
 ghost use Rattle.kb_catalog.specs.declared.version.Product.{Product};
 ghost use Rattle.kb_catalog.specs.Products.{product_named};
@@ -37,7 +38,7 @@ fn billing_align(choice: &Choice, phase: &Phase) -> BillingAlign
 }
 
 /// A plan and a phase of it, as the rules of its version look at them.
-fn ask_of(choice: &Choice, phase: &Phase) -> PlanAsk
+pub fn ask_of(choice: &Choice, phase: &Phase) -> PlanAsk
     ensures { result ≡ ask_of choice.now phase.now }
 {
     PlanAsk {
@@ -51,7 +52,8 @@ fn ask_of(choice: &Choice, phase: &Phase) -> PlanAsk
 
 /// The category of a product, where the version has it.
 fn category_of(version: &Version, product: Name) -> Option<Category>
-    ensures { result ≡ option_map (λ (product : Product). product.category) (product_named version.now product) }
+    ensures { result ≡ option_map (λ (product : Product). product.category)
+        (product_named version.now product) }
 {
     match version.product(product) {
         None => None,
@@ -59,8 +61,8 @@ fn category_of(version: &Version, product: Name) -> Option<Category>
     }
 }
 
-/// A subscription's own cycle day: the day of the month on which the first phase with a recurring price starts, by the
-/// plan and anchor of its start; where there is none, that of its start.
+/// A subscription's own cycle day: the day of the month on which the first phase with a recurring price
+/// starts, by the plan and anchor of its start; where there is none, that of its start.
 fn own_cycle_day(facts: &Facts, subscription: &Subscription) -> Bcd
     ensures { result ≡ own_cycle_day facts.now subscription.now }
 {
@@ -78,7 +80,8 @@ fn number_in_month(day: Reach) -> Bcd
 
 /// The start of the first phase with a recurring price, by the plan and anchor of an entry.
 fn billed_start(facts: &Facts, entry: &Entry) -> Option<Reach>
-    ensures { result ≡ option_and_then (λ choice. first_billed_start facts.now.currency entry.now.anchor choice.plan) (choice_of facts.now.catalog entry.now.plan) }
+    ensures { result ≡ option_and_then (λ choice. first_billed_start facts.now.currency entry.now.anchor
+        choice.plan) (choice_of facts.now.catalog entry.now.plan) }
 {
     let choice = choice_of(facts.catalog, entry.plan)?;
     first_billed_start(facts.currency, entry.anchor, choice.plan)

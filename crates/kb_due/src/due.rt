@@ -1,8 +1,9 @@
 //! What is due on a day, by a look at each day.
-ghost use Rattle.std.specs.Prelude.{◌≡◌, ◌<◌, ◌≤◌, ◌+◌, length, IfSome};
-ghost use Rattle.kb_days.specs.Calendar.{first_day};
+ghost use Rattle.std.specs.Prelude.{None, ◌≡◌, ◌<◌, ◌≤◌, ◌+◌, length, IfSome};
+ghost use Rattle.kb_days.specs.Calendar.{first_day, end_of_days};
 ghost use Rattle.kb_blocking.specs.Blocking.{turns};
-ghost use Rattle.kb_due.specs.DueDays.{last_billed, is_event, event_by, due_by, due_of, due_on};
+ghost use Rattle.kb_due.specs.Cells.{max_period_days};
+ghost use Rattle.kb_due.specs.DueDays.{is_event, event_by, due_by, due_of, due_on};
 
 use crate::cell_day::cell_on;
 use crate::chain::chain_of;
@@ -12,19 +13,19 @@ use kb_blocking::{Blocks, Chain, Flag};
 use kb_days::{Day, Reach};
 use kb_timeline::Subscription;
 
-/// The due cell of a day at a billed date, of the subscription at a place: that of its phase and period, where the
-/// subscription is live and its billing isn't blocked, and where the period, the entry, the phase and the last turn of the
-/// billing flag have begun by the billed date. It takes no memory.
+/// The due cell of a day at a billed date, of the subscription at a place: that of its phase and period,
+/// where the subscription is live and its billing isn't blocked, and where the period, the entry, the phase
+/// and the last turn of the billing flag have begun by the billed date. It takes no memory.
 #[tactic(auto, unfolding(crate::specs::DueDays::due_on))]
-pub fn due_on(facts: &Facts, sub: u32, t: Day, day: Reach) -> Option<Cell>
+pub fn due_on(facts: &Facts, sub: u32, billed: Day, day: Reach) -> Option<Cell>
     requires there { sub < length facts.now.timeline.subscriptions }
-    requires told { day ≤ last_billed }
-    ensures value { result ≡ due_on facts.now sub t day }
+    ensures value { result ≡ due_on facts.now sub billed day }
     ensures has_day { IfSome result (λ cell. (cell.start ≤ day) × (day < cell.end)) }
-    ensures longest { IfSome result (λ cell. cell.end ≤ cell.start + 731) }
-    ensures begun { IfSome result (λ cell. cell.start ≤ t) }
+    ensures longest { IfSome result (λ cell. cell.end ≤ cell.start + max_period_days) }
+    ensures begun { IfSome result (λ cell. cell.start ≤ billed) }
+    ensures late { end_of_days ≤ day → result ≡ None }
 {
-    due_of(facts, facts.timeline.subscription(sub), sub, t, day)
+    due_of(facts, facts.timeline.subscription(sub), sub, billed, day)
 }
 
 /// The due cell of a day of a subscription.
@@ -35,11 +36,11 @@ fn due_of(
     billed: Day,
     day: Reach,
 ) -> Option<Cell>
-    requires told { day ≤ last_billed }
     ensures value { result ≡ due_of facts.now subscription.now sub billed day }
     ensures has_day { IfSome result (λ cell. (cell.start ≤ day) × (day < cell.end)) }
-    ensures longest { IfSome result (λ cell. cell.end ≤ cell.start + 731) }
+    ensures longest { IfSome result (λ cell. cell.end ≤ cell.start + max_period_days) }
     ensures begun { IfSome result (λ cell. cell.start ≤ billed) }
+    ensures late { end_of_days ≤ day → result ≡ None }
 {
     let governing = governing_on(facts.catalog, &subscription.entries, day)?;
     let cell = cell_on(facts, subscription, sub, day)?;
@@ -63,8 +64,8 @@ fn due_by(billed: Day, event: u32, cell: Cell) -> Option<Cell>
     }
 }
 
-/// The last day on or before a day on which the entry that governs it, the phase that governs it, or a turn of the billing
-/// flag stands.
+/// The last day on or before a day on which the entry that governs it, the phase that governs it, or a turn
+/// of the billing flag stands.
 fn event_by(
     facts: &Facts,
     subscription: &Subscription,
@@ -92,7 +93,8 @@ fn event_by(
     first
 }
 
-/// Whether the entry that governs, the start of the phase that governs, or a turn of the billing flag stands on a day.
+/// Whether the entry that governs, the start of the phase that governs, or a turn of the billing flag stands
+/// on a day.
 fn is_event(
     facts: &Facts,
     subscription: &Subscription,

@@ -17,7 +17,7 @@ use kb_timeline::Subscription;
 /// | `Cancelled` | from its start on, where it isn't live |
 /// | `Blocked` | on which it is live and its entitlement is blocked |
 /// | `Active` | on which it is live and nothing blocks it |
-#[derive(Clone, Copy, Debug, PartialEq, Eq, Hash)]
+#[derive(Clone, Copy, Debug, PartialEq, Eq)]
 pub enum Entitlement {
     Pending,
     Active,

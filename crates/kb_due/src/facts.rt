@@ -8,8 +8,8 @@ use kb_money::Currency;
 use kb_timeline::Timeline;
 use std::marker::Model;
 
-/// What billing looks at: the versions of the catalog, and of an account its subscriptions, its blocking states, its
-/// currency and its cycle day.
+/// What billing looks at: the versions of the catalog, and of an account its subscriptions, its blocking
+/// states, its currency and its cycle day.
 #[derive(Debug, Drop)]
 pub struct Facts<'a> {
     pub catalog: &'a Catalog,

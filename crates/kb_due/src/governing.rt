@@ -3,7 +3,8 @@ ghost use Rattle.std.specs.Prelude.{◌≡◌, ◌<◌, ◌≤◌, ◌^◌, leng
 ghost use Rattle.kb_days.specs.Calendar.{first_day};
 ghost use Rattle.kb_catalog.specs.declared.version.Phase.{Phase};
 ghost use Rattle.kb_align.specs.Phases.{phase_on};
-ghost use Rattle.kb_due.specs.Governing.{choice_of, choice_in, governing_phase, governing_choice, governing_by, governing_on, IsBegun};
+ghost use Rattle.kb_due.specs.Governing.{choice_of, choice_in, governing_phase, governing_choice};
+ghost use Rattle.kb_due.specs.Governing.{governing_by, governing_on, IsBegun};
 
 use kb_align::{PhaseAt, begun_phase, next_start};
 use kb_catalog::{Catalog, Phase, Plan, PriceList, Valid};
@@ -25,7 +26,12 @@ impl<'a> Model for Choice<'a> {
 
     ghost Value = { Choice };
 
-    ghost view = { λ choice. record { version = choice.version.now; list = choice.list.now; plan = choice.plan.now } };
+    ghost view = { λ choice. record {
+      version = choice.version.now;
+      list = choice.list.now;
+      plan =
+          choice.plan.now;
+    } };
 
     ghost invariant = { λ choice. length choice.plan.now.phases < 2 ^ 32 };
 }

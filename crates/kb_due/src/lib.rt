@@ -1,8 +1,8 @@
 //! What is due: the cell that each day of a subscription is charged by.
 //!
-//! The rule kept here: a day is charged by its cell, where the subscription is live, its billing isn't blocked and its
-//! phase has a recurring price, once the cell's period and what last changed it have begun by the billed date. Layers
-//! above ask day by day, and measure whatever is quicker against these answers.
+//! The rule kept here: a day is charged by its cell, where the subscription is live, its billing isn't
+//! blocked and its phase has a recurring price, once the cell's period and what last changed it have begun by
+//! the billed date. Layers above ask day by day, and measure whatever is quicker against these answers.
 #![tactic(auto)]
 
 mod cell;
@@ -16,16 +16,15 @@ mod fee;
 mod first;
 mod governing;
 mod life;
-#[cfg(test)]
-mod tests;
 
 pub use cell::{Cell, Piece};
 pub use cell_day::cell_by;
 pub use chain::chain_of;
+pub use cycle_day::ask_of;
 pub use due::due_on;
 pub use entitlement::{Entitlement, state_on};
 pub use facts::Facts;
 pub use fee::{fee_by, fee_on};
 pub use first::{FirstCell, first_due};
 pub use governing::{Choice, Governing, choice_of, governing_on};
-pub use life::{is_kept_on, is_running, lead_of, live};
+pub use life::{choice_on, is_available, is_kept_on, is_running, lead_of, live};

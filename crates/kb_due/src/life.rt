@@ -2,7 +2,9 @@
 ghost use Rattle.std.specs.Prelude.{◌≡◌, ◌<◌, ◌+◌, ◌-◌, length, option_and_then, option_copied};
 ghost use Rattle.std.specs.List.{list_all, range_with_len};
 ghost use Rattle.kb_catalog.specs.Products.{has_name};
-ghost use Rattle.kb_due.specs.Life.{has_started, is_cancelled, is_running, choice_on, available_with, is_offered, is_kept_on, is_kept, is_kept_by, lead_subscription, is_live_of, is_live};
+ghost use Rattle.kb_due.specs.Life.{has_started, is_cancelled, is_running, choice_on, available_with};
+ghost use Rattle.kb_due.specs.Life.{is_offered, is_kept_on, is_kept, is_kept_by, lead_subscription};
+ghost use Rattle.kb_due.specs.Life.{is_live_of, is_live};
 
 use crate::Facts;
 use crate::governing::{Choice, choice_of};
@@ -10,8 +12,9 @@ use kb_catalog::Catalog;
 use kb_days::{Day, Name, Reach};
 use kb_timeline::{Entries, Subscription};
 
-/// Whether the subscription at a place is live on a day: it has started and isn't cancelled by then, and if it is an
-/// add-on, on every day from its start its lead was so too and offered its product. It takes no memory.
+/// Whether the subscription at a place is live on a day: it has started and isn't cancelled by then, and if
+/// it is an add-on, on every day from its start its lead was so too and offered its product. It takes no
+/// memory.
 pub fn live(facts: &Facts, sub: u32, day: Reach) -> bool
     requires there { sub < length facts.now.timeline.subscriptions }
     ensures { result ≡ is_live facts.now sub day }
@@ -99,7 +102,8 @@ fn is_kept_from(
     first: Day,
     day: Reach,
 ) -> bool
-    ensures { result ≡ list_all (is_kept_on catalog.now lead.now addon.now) (range_with_len first (day + 1 - first)) }
+    ensures { result ≡ list_all (is_kept_on catalog.now lead.now addon.now)
+        (range_with_len first (day + 1 - first)) }
 {
     for number in first.number()..day.number() + 1 {
         if !is_kept_on(catalog, lead, addon, Reach::new(number).unwrap()) {
@@ -128,16 +132,16 @@ fn is_offered(catalog: &Catalog, lead: &Subscription, addon: &Subscription, day:
     }
 }
 
-/// What the entry that governs a day chose.
-fn choice_on<'a>(catalog: &'a Catalog, entries: &Entries, day: Reach) -> Option<Choice<'a>>
+/// What the entry that governs a day chose: none before the first one.
+pub fn choice_on<'a>(catalog: &'a Catalog, entries: &Entries, day: Reach) -> Option<Choice<'a>>
     ensures { result ≡ choice_on catalog.now entries.now day }
 {
     let entry = entries.on(day)?;
     choice_of(catalog, entry.plan)
 }
 
-/// Whether an add-on of a name may be had with the product of a plan.
-fn is_available(lead: &Choice, name: Name) -> bool
+/// Whether an add-on's product of this name may be had with the product of a lead's plan.
+pub fn is_available(lead: &Choice, name: Name) -> bool
     ensures { result ≡ has_name (available_with lead.now) name }
 {
     match lead.version.version().product(lead.plan.product) {

@@ -1,14 +1,18 @@
 -- The last of some days up to a day.
-use Rattle.std.proofs.Common.{◌≡◌, inl, inr, ◌⊎◌, ℕ, ◌+◌, ◌<◌, ◌≤◌, List, [], ◌∷◌, Contains, refl, sym, subst, arith}
+use Rattle.std.proofs.Common.{◌≡◌, inl, inr, ◌⊎◌, ℕ, ◌+◌, ◌<◌, ◌≤◌, List, [], ◌∷◌, Contains, refl, sym, subst}
+use Rattle.std.proofs.Common.{arith}
 use Rattle.std.proofs.lemmas.Bool.{cases_lt}
-use Rattle.std.proofs.lemmas.List.Elements.{Contains-append_left, Contains-append_right, Contains-append_cases, Contains-push, Contains-push_cases}
-use Rattle.kb_events.specs.Cuts.{IsGap}
+use Rattle.std.proofs.lemmas.List.Elements.{Contains-append_left, Contains-append_right}
+use Rattle.std.proofs.lemmas.List.Elements.{Contains-append_cases, Contains-push, Contains-push_cases}
+use Rattle.kb_events.specs.Private.Cuts.{IsGap}
 
 -- a member is the first one or a later one
-Contains-cons_cases : (first : ℕ) (later : List ℕ) (day : ℕ) → Contains (first ∷ later) day → (first ≡ day) ⊎ Contains later day
+Contains-cons_cases : (first : ℕ) (later : List ℕ) (day : ℕ) → Contains (first ∷ later) day
+    → (first ≡ day) ⊎ Contains later day
 Contains-cons_cases first later day has =
     elim (Contains-append_cases (first ∷ []) later day has) [
-      | inl here ↦ elim (Contains-push_cases [] first day here) [ inl none ↦ absurd (omega (arith, none.1)) | inr same ↦ inl same ]
+      | inl here ↦ elim (Contains-push_cases [] first day here)
+          [ inl none ↦ absurd (omega (arith, none.1)) | inr same ↦ inl same ]
       | inr behind ↦ inr behind
     ]
 
@@ -24,17 +28,32 @@ record IsLast (cuts : List ℕ) (one day last : ℕ) : Type 0 where
   greatest : (other : ℕ) → Contains cuts other → other ≤ day → other ≤ last
 
 last_of : (cuts : List ℕ) (one day : ℕ) → one ≤ day → (last : ℕ) × IsLast cuts one day last
-last_of [] one day past =
-    (one, record { among = inl refl; begins = omega arith; past = past; greatest = λ other has up_to. absurd (omega (arith, has.1)) })
-last_of (first ∷ later) one day past = by_place (cases_lt day first) (cases_lt one first) (last_of later one day past) (λ up_to_day. last_of later first day up_to_day)
+last_of [] one day past = (
+  one,
+  record {
+    among = inl refl;
+    begins = omega arith;
+    past = past;
+    greatest = λ other has up_to. absurd
+        (omega (arith, has.1));
+  },
+)
+last_of (first ∷ later) one day past = by_place (cases_lt day first) (cases_lt one first)
+    (last_of later one day past) (λ up_to_day. last_of later first day up_to_day)
   where
-    skipped : ((last : ℕ) × IsLast later one day last) → ((other : ℕ) → first ≡ other → other ≤ day → other ≤ one) → (last : ℕ) × IsLast (first ∷ later) one day last
+    skipped : ((last : ℕ) × IsLast later one day last)
+        → ((other : ℕ) → first ≡ other → other ≤ day → other ≤ one)
+        → (last : ℕ) × IsLast (first ∷ later) one day last
     skipped found bounded =
         let last = found.0 in
         let is = found.1 in (
           last,
           record {
-            among = elim is.among [ inl same ↦ inl same | inr has ↦ inr (Contains-append_right (first ∷ []) later last has) ];
+            among = elim is.among [
+              | inl same ↦ inl same
+              | inr has ↦ inr
+                  (Contains-append_right (first ∷ []) later last has)
+            ];
             begins = is.begins;
             past = is.past;
             greatest = λ other has up_to.
@@ -45,7 +64,8 @@ last_of (first ∷ later) one day past = by_place (cases_lt day first) (cases_lt
           },
         )
 
-    taken : ((last : ℕ) × IsLast later first day last) → one ≤ first → (last : ℕ) × IsLast (first ∷ later) one day last
+    taken : ((last : ℕ) × IsLast later first day last) → one ≤ first
+        → (last : ℕ) × IsLast (first ∷ later) one day last
     taken found begins =
         let last = found.0 in
         let is = found.1 in (
@@ -65,11 +85,16 @@ last_of (first ∷ later) one day past = by_place (cases_lt day first) (cases_lt
           },
         )
 
-    by_place : (day < first) ⊎ (first ≤ day) → (one < first) ⊎ (first ≤ one) → ((last : ℕ) × IsLast later one day last)
-        → (first ≤ day → (last : ℕ) × IsLast later first day last) → (last : ℕ) × IsLast (first ∷ later) one day last
-    by_place (inl behind) other from_one from_first = skipped from_one (λ other same up_to. absurd (omega (arith, same, up_to, behind)))
-    by_place (inr up_to_day) (inl after) from_one from_first = taken (from_first up_to_day) (omega (arith, after))
-    by_place (inr up_to_day) (inr before) from_one from_first = skipped from_one (λ other same up_to. omega (arith, same, before))
+    by_place : (day < first) ⊎ (first ≤ day) → (one < first) ⊎ (first ≤ one)
+        → ((last : ℕ) × IsLast later one day last)
+        → (first ≤ day → (last : ℕ) × IsLast later first day last)
+        → (last : ℕ) × IsLast (first ∷ later) one day last
+    by_place (inl behind) other from_one from_first =
+        skipped from_one (λ other same up_to. absurd (omega (arith, same, up_to, behind)))
+    by_place (inr up_to_day) (inl after) from_one from_first =
+        taken (from_first up_to_day) (omega (arith, after))
+    by_place (inr up_to_day) (inr before) from_one from_first =
+        skipped from_one (λ other same up_to. omega (arith, same, before))
 
 -- from a cut up to a day there is a last one
 pub last_cut : (cuts : List ℕ) (start day : ℕ) → Contains cuts start → start ≤ day
@@ -82,5 +107,6 @@ last_cut cuts start day has past =
       elim is.among [ inl same ↦ subst (Contains cuts) (sym same) has | inr among ↦ among ],
       is.begins,
       is.past,
-      (λ other among after before. let low = is.greatest other among (omega (arith, before)) in absurd (omega (arith, low, after))),
+      (λ other among after before. let low = is.greatest other among (omega (arith, before)) in absurd
+          (omega (arith, low, after))),
     )

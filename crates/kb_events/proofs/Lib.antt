@@ -29,3 +29,4 @@ pub mod NamedDays
 pub mod FeeDays
 pub mod LastDays
 pub mod FeesOfOneDay
+pub mod InCells

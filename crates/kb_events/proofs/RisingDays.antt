@@ -4,7 +4,8 @@ use Rattle.std.specs.List.Sorted.{IsNonDecreasingBy}
 use Rattle.std.proofs.lemmas.Bool.{cases_lt}
 
 -- days that rise don't fall
-pub IsNonDecreasingBy-rising : (days : List ℕ) → AllPairs (λ (earlier later : ℕ). earlier < later) days → IsNonDecreasingBy (λ (day : ℕ). day) days
+pub IsNonDecreasingBy-rising : (days : List ℕ) → AllPairs (λ (earlier later : ℕ). earlier < later) days
+    → IsNonDecreasingBy (λ (day : ℕ). day) days
 IsNonDecreasingBy-rising days rising i j d up within = by_place (cases_lt i j)
   where
     by_place : (i < j) ⊎ (j ≤ i) → get_or days i d ≤ get_or days j d

@@ -9,7 +9,8 @@ use Rattle.kb_align.proofs.BoundaryDays.{is_boundary-true, period_on-IsPeriodOf}
 use Rattle.kb_events.proofs.SteadyEvents.{last_day_on-begins}
 
 -- every day between two neighbouring days of some kind lies between them as one of them does
-pub IsBetween-within : (IsSuch : ℕ → Type 0) (day from to other : ℕ) → IsBetween IsSuch day from to → from ≤ other → other < to → IsBetween IsSuch other from to
+pub IsBetween-within : (IsSuch : ℕ → Type 0) (day from to other : ℕ) → IsBetween IsSuch day from to
+    → from ≤ other → other < to → IsBetween IsSuch other from to
 IsBetween-within IsSuch day from to other is begins ends = record {
   from_such = is.from_such;
   to_such = is.to_such;
@@ -28,14 +29,17 @@ IsBetween-within IsSuch day from to other is begins ends = record {
 }
 
 -- the search finds the same period on all its days
-pub period_on-steady : (start : ℕ) (period : Period) (bcd day from to other : ℕ) → IsPeriodOf start period bcd day from to → to ≤ from + 731
+pub period_on-steady : (start : ℕ) (period : Period) (bcd day from to other : ℕ)
+    → IsPeriodOf start period bcd day from to → to ≤ from + 731
     → from ≤ other → other < to → period_on start period bcd other ≡ (from, to)
 period_on-steady start period bcd day from to other is short begins ends =
     period_on-IsPeriodOf start period bcd other from to
     (IsBetween-within (IsBoundary start period bcd) day from to other is begins ends) short
 
 -- the period of a day begins no earlier than a boundary on or before the day
-pub period_on-begins : (start : ℕ) (period : Period) (bcd from e : ℕ) → IsBoundary start period bcd from → from ≤ e → from ≤ (period_on start period bcd e).0
+pub period_on-begins : (start : ℕ) (period : Period) (bcd from e : ℕ) → IsBoundary start period bcd from
+    → from ≤ e → from ≤ (period_on start period bcd e).0
 unfolding period_on
 period_on-begins start period bcd from e bound begun =
-    last_day_on-begins (is_boundary start period bcd) from e (is_boundary-true start period bcd from bound) begun
+    last_day_on-begins (is_boundary start period bcd) from e (is_boundary-true start period bcd from bound)
+    begun

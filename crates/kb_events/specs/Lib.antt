@@ -1,10 +1,3 @@
 pub mod Pieces
-pub mod Intervals
-pub mod Quiet
-pub mod Ends
-pub mod QuietDays
-pub mod BegunCells
-pub mod Cuts
-pub mod Standing
-pub mod Courses
 pub mod SmallPieces
+pub mod Private

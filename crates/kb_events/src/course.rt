@@ -2,7 +2,7 @@
 ghost use Rattle.std.specs.Prelude.{◌≡◌, ◌≤◌, slice_get, Some, All, IfOk};
 ghost use Rattle.kb_days.specs.Calendar.{first_day};
 ghost use Rattle.kb_timeline.specs.declared.entry.Entry as entries;
-ghost use Rattle.kb_events.specs.Courses.{IsCourse};
+ghost use Rattle.kb_events.specs.Private.Courses.{IsCourse};
 
 use crate::cutting::cuts;
 use crate::ending::life_end;
@@ -28,7 +28,8 @@ pub(crate) fn course_of(
     subscription: &Subscription,
     sub: u32,
 ) -> Result<Course, NoMemory>
-    ensures { IfOk result (λ course. IsCourse facts.now subscription.now sub course.cuts.items course.turns.items course.end) }
+    ensures { IfOk result (λ course. IsCourse facts.now subscription.now sub course.cuts.items
+        course.turns.items course.end) }
 {
     let start = start_of(subscription);
     let turns = facts

@@ -1,27 +1,23 @@
 //! The days on which what charges a subscription may change.
 ghost use Rattle.std.specs.Prelude.{◌≡◌, ◌≤◌, map, All, IfOk, IfSome, OnOk, option_copied};
-ghost use Rattle.kb_events.specs.Cuts.{HasDay, HasStarts, HasPhases, HasEntry, HasEntryDays, HasLead, HasLeadOf, HasChanges, KeepsDays, AreCuts, end_of_days};
+ghost use Rattle.kb_events.specs.Private.Cuts.{HasDay, HasStarts, HasPhases, HasEntry, HasEntryDays, HasLead};
+ghost use Rattle.kb_events.specs.Private.Cuts.{HasLeadOf, HasChanges, KeepsDays, AreCuts};
 ghost use Rattle.kb_catalog.specs.declared.version.Phase.{Phase};
-ghost use Rattle.kb_days.specs.Calendar.{first_day};
+ghost use Rattle.kb_days.specs.Calendar.{first_day, end_of_days};
 ghost use Rattle.kb_align.specs.Phases.{phase_starts};
 
 use kb_align::next_start;
 use kb_base::NoMemory;
 use kb_catalog::{Catalog, Phase};
-use kb_days::{Day, Reach};
+use kb_days::{Day, END_OF_DAYS, FIRST_DAY, Reach};
 use kb_due::{Facts, choice_of, lead_of};
 use kb_timeline::{Entry, Subscription};
 use std::alloc::Global;
 
-/// The first day on which cells are told: 2000-01-01.
-pub(crate) const FIRST: u32 = 10_957;
-
-/// The day after the last one: 2102-02-01.
-pub(crate) const END: u32 = 48_243;
-
-/// The days on which something may change that charges a subscription but the boundaries of its periods, rising, up to the
-/// day after the last one on which cells are told: the days of its entries and of the phases that they count, its
-/// cancellation, the entries and the cancellation of its lead if it is an add-on, and the turns of the billing flag.
+/// The days on which something may change that charges a subscription but the boundaries of its periods,
+/// rising, up to the day after the last one on which cells are told: the days of its entries and of the
+/// phases that they count, its cancellation, the entries and the cancellation of its lead if it is an add-on,
+/// and the turns of the billing flag.
 pub(crate) fn cuts(
     alloc: Global,
     facts: &Facts,
@@ -32,7 +28,7 @@ pub(crate) fn cuts(
     ensures turned { IfOk result (λ cuts. All (HasDay cuts.items) turns.now) }
 {
     let mut days = Vec::new(alloc);
-    days.push(END)?;
+    days.push(END_OF_DAYS)?;
     push_changes(&mut days, facts, subscription, turns)?;
     days.sort()?;
     Ok(days)
@@ -95,7 +91,8 @@ fn push_phases(days: &mut Vec<u32>, catalog: &Catalog, entry: &Entry) -> Result<
 /// Adds the days on which the phases of a plan start, counted from an anchor.
 fn push_starts(days: &mut Vec<u32>, anchor: Day, phases: &[Phase]) -> Result<(), NoMemory>
     ensures keeps { OnOk result (KeepsDays days.old.items days.new.items) }
-    ensures has { OnOk result (HasStarts days.new.items (phase_starts anchor (map (λ (phase : Phase). phase.span) phases.now))) }
+    ensures has { OnOk result (HasStarts days.new.items
+        (phase_starts anchor (map (λ (phase : Phase). phase.span) phases.now))) }
 {
     let mut start = Some(anchor.reach());
     for phase in phases {
@@ -196,7 +193,7 @@ fn push_day(days: &mut Vec<u32>, day: Reach) -> Result<(), NoMemory>
     ensures keeps { OnOk result (KeepsDays days.old.items days.new.items) }
     ensures has { OnOk result (HasDay days.new.items day) }
 {
-    if FIRST <= day.number() && day.number() < END {
+    if FIRST_DAY <= day.number() && day.number() < END_OF_DAYS {
         days.push(day.number())?;
     }
     Ok(())

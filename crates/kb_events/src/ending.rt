@@ -1,20 +1,19 @@
 //! When the life of an add-on ends.
 ghost use Rattle.std.specs.List.Sorted.{IsNonDecreasing};
 ghost use Rattle.std.specs.Prelude.{◌≡◌, ◌≤◌, true, false, slice_get, Some, IfSome};
-ghost use Rattle.kb_days.specs.Calendar.{first_day};
-ghost use Rattle.kb_due.specs.DueDays.{last_billed};
+ghost use Rattle.kb_days.specs.Calendar.{first_day, last_charged};
 ghost use Rattle.kb_due.specs.Life.{is_kept_on};
-ghost use Rattle.kb_events.specs.Cuts.{HasDay, HasEntryDays, HasLead, AreCuts};
-ghost use Rattle.kb_events.specs.Ends.{IsFailureFrom, IsLifeEnd};
+ghost use Rattle.kb_events.specs.Private.Cuts.{HasDay, HasEntryDays, HasLead, AreCuts};
+ghost use Rattle.kb_events.specs.Private.Ends.{IsFailureFrom, IsLifeEnd};
 
-use crate::cutting::END;
 use kb_catalog::Catalog;
-use kb_days::Reach;
+use kb_days::{END_OF_DAYS, Reach};
 use kb_due::{Facts, is_kept_on, lead_of};
 use kb_timeline::{Entry, Subscription};
 
-/// The first day from its start on on which an add-on isn't kept, if there is one: its start where its bundle has no lead,
-/// else the first cut on which its lead doesn't run or offer it. No subscription but an add-on has such an end.
+/// The first day from its start on on which an add-on isn't kept, if there is one: its start where its bundle
+/// has no lead, else the first cut on which its lead doesn't run or offer it. No subscription but an add-on
+/// has such an end.
 pub(crate) fn life_end(
     facts: &Facts,
     subscription: &Subscription,
@@ -44,7 +43,7 @@ fn kept_until(
     cuts: &[u32],
 ) -> Option<u32>
     requires named { first_day ≤ start }
-    requires last { start ≤ last_billed }
+    requires last { start ≤ last_charged }
     requires rising { IsNonDecreasing cuts.now }
     requires started { HasDay cuts.now start }
     requires led { HasLead cuts.now lead.now }
@@ -60,8 +59,8 @@ fn kept_until(
     None
 }
 
-/// Whether cells are told on the day of a number, it isn't before an add-on's first day, and the lead doesn't run or offer the
-/// add-on on it.
+/// Whether cells are told on the day of a number, it isn't before an add-on's first day, and the lead doesn't
+/// run or offer the add-on on it.
 fn is_failure(
     catalog: &Catalog,
     lead: &Subscription,
@@ -70,18 +69,19 @@ fn is_failure(
     number: u32,
 ) -> bool
     requires named { first_day ≤ first }
-    ensures passes { result ≡ false → first ≤ number → number ≤ last_billed → is_kept_on catalog.now lead.now addon.now number ≡ true }
+    ensures passes { result ≡ false → first ≤ number → number ≤ last_charged → is_kept_on catalog.now lead.now
+        addon.now number ≡ true }
     ensures begun { result ≡ true → first ≤ number }
-    ensures told { result ≡ true → number ≤ last_billed }
+    ensures told { result ≡ true → number ≤ last_charged }
     ensures fails { result ≡ true → is_kept_on catalog.now lead.now addon.now number ≡ false }
 {
-    first <= number && number < END && !is_kept_at(catalog, lead, addon, number)
+    first <= number && number < END_OF_DAYS && !is_kept_at(catalog, lead, addon, number)
 }
 
 /// Whether an add-on's lead runs and offers it on the day of a number.
 fn is_kept_at(catalog: &Catalog, lead: &Subscription, addon: &Subscription, number: u32) -> bool
     requires named { first_day ≤ number }
-    requires told { number ≤ last_billed }
+    requires told { number ≤ last_charged }
     ensures { result ≡ is_kept_on catalog.now lead.now addon.now number }
 {
     is_kept_on(catalog, lead, addon, Reach::new(number).unwrap())

@@ -1,22 +1,21 @@
 //! Billing pieces: the due cells of all days at once, by intervals.
 //!
-//! The rule kept here: nothing that a day is charged by changes but on an event, and on the boundaries of billing periods;
-//! so the days between are charged alike, and are never visited one by one. Layers above take the pieces of a subscription.
+//! The rule kept here: nothing that a day is charged by changes but on an event, and on the boundaries of
+//! billing periods; so the days between are charged alike, and are never visited one by one. Layers above
+//! take the pieces of a subscription.
 #![tactic(auto)]
 
 mod charged;
-mod charging_once;
 mod course;
 mod cutting;
+mod due_pieces;
 mod ending;
+mod fee_pieces;
 mod living;
 mod periods;
 mod pushing;
 mod standing;
-#[cfg(test)]
-mod tests;
-mod walking;
 
 pub use charged::charged_through;
-pub use charging_once::fees;
-pub use walking::pieces;
+pub use due_pieces::pieces;
+pub use fee_pieces::fees;

@@ -1,19 +1,17 @@
 //! How the billing flag stands on a day: it is asked once on the first day, and turns from then on.
 ghost use Rattle.std.specs.Prelude.{◌≡◌, ◌<◌, ◌≤◌, ◌⊎◌, ℕ, List, length, Contains, AllPairs};
 ghost use Rattle.std.specs.List.Sorted.{IsPartitionPoint};
-ghost use Rattle.kb_days.specs.Calendar.{first_day};
+ghost use Rattle.kb_days.specs.Calendar.{first_day, end_of_days};
 ghost use Rattle.kb_blocking.specs.declared.state.BlockState.{BlockState};
 ghost use Rattle.kb_blocking.specs.declared.state.Chain as chains;
 ghost use Rattle.kb_blocking.specs.Blocking.{differ};
-ghost use Rattle.kb_events.specs.Cuts.{end_of_days};
-ghost use Rattle.kb_events.specs.Standing.{AreTurns, IsStanding, KeepsFlag};
+ghost use Rattle.kb_events.specs.Private.Standing.{AreTurns, IsStanding, KeepsFlag};
 
-use crate::cutting::FIRST;
 use kb_blocking::{Blocks, Chain, Flag};
-use kb_days::{Day, Reach};
+use kb_days::{Day, FIRST_DAY, Reach};
 
-/// A day, whether billing is blocked on it, and the last day up to it on which that changed, or the first day on which
-/// cells are told where it hasn't changed since.
+/// A day, whether billing is blocked on it, and the last day up to it on which that changed, or the first day
+/// on which cells are told where it hasn't changed since.
 #[derive(Clone, Copy, Debug)]
 pub(crate) struct Standing {
     pub(crate) day: Reach,
@@ -38,7 +36,7 @@ pub(crate) fn first_standing(blocks: &Blocks, chain: Chain) -> Standing
 pub(crate) fn first_reach() -> Reach
     ensures { result ≡ first_day }
 {
-    Reach::new(FIRST).unwrap()
+    Reach::new(FIRST_DAY).unwrap()
 }
 
 /// How the billing flag stands on a later day, if it doesn't turn on a day between.
@@ -47,8 +45,10 @@ pub(crate) fn next_standing(standing: &Standing, turns: &[Day], day: Reach) -> S
     requires named { first_day ≤ standing.now.day }
     requires rising { AllPairs (λ (earlier later : ℕ). earlier < later) turns.now }
     ensures day { result.day ≡ day }
-    ensures stands { (states : List BlockState) (chain : chains.Chain) → AreTurns states chain turns.now → KeepsFlag states chain standing.now.day day
-        → IsStanding states chain standing.now.day standing.now.blocked standing.now.turn → IsStanding states chain day result.blocked result.turn }
+    ensures stands { (states : List BlockState) (chain : chains.Chain) → AreTurns states chain turns.now
+        → KeepsFlag states chain standing.now.day day
+        → IsStanding states chain standing.now.day standing.now.blocked standing.now.turn
+        → IsStanding states chain day result.blocked result.turn }
 {
     let turn = turn_by(turns, day);
     Standing {

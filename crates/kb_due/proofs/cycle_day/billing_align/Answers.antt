@@ -9,7 +9,9 @@ use Rattle.kb_due.proofs.cycle_day.billing_align.Goals as goal
 
 pub returns : goal.returns
 returns c =
-    let asked = c.ask_of.ensures ∙ ap (λ (choice : Choice). ask_of choice c.args.phase.now) (sym c.choice.view_is) in
+    let asked = c.ask_of.ensures ∙ ap (λ (choice : Choice). ask_of choice c.args.phase.now)
+    (sym c.choice.view_is) in
     rw (← c.choice.view_is)
-    (subst (λ (ask : PlanAsk). first_match (fits_billing ask) (λ (case : BillingCase). case.alignment) c.choice.inside.version.now.rules.billing_alignment
+    (subst (λ (ask : PlanAsk). first_match (fits_billing ask) (λ (case : BillingCase). case.alignment)
+    c.choice.inside.version.now.rules.billing_alignment
     ≡ Some c.billing_alignment.result) asked c.billing_alignment.ensures)

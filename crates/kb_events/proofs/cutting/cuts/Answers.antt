@@ -1,7 +1,8 @@
 -- A sorted list has the days that it had, and no others.
 use Rattle.std.proofs.Common.{rules, ◌≡◌, ◌∷◌, [], subst, ℕ, List}
 use Rattle.std.proofs.lemmas.List.Sorted.{IsNonDecreasingBy-from_sort}
-use Rattle.kb_events.specs.Cuts.{KeepsDays, end_of_days}
+use Rattle.kb_days.specs.Calendar.{end_of_days}
+use Rattle.kb_events.specs.Private.Cuts.{KeepsDays}
 use Rattle.kb_events.proofs.AmongDays.{KeepsDays-sorted, HasDays-more, AreCuts-sorted}
 use Rattle.kb_events.proofs.cutting.cuts.Goals as goal
 
@@ -15,6 +16,8 @@ returns c =
     let keeps = subst (λ (days : List ℕ). KeepsDays days pushed) first changes.keeps in
     let rising = IsNonDecreasingBy-from_sort (λ (day : ℕ). day) sorted c.in_ok-sort.ensures.sorted in
     record {
-      cuts = AreCuts-sorted pushed sorted c.args.facts.now c.args.subscription.now keeps changes.has moved rising;
-      turned = HasDays-more pushed sorted c.args.turns.now (KeepsDays-sorted pushed sorted moved) changes.turned;
+      cuts = AreCuts-sorted pushed sorted c.args.facts.now c.args.subscription.now keeps changes.has moved
+          rising;
+      turned = HasDays-more pushed sorted c.args.turns.now (KeepsDays-sorted pushed sorted moved)
+          changes.turned;
     }

@@ -2,7 +2,7 @@
 use Rattle.std.proofs.Common.{All, subst, ap, List}
 use Rattle.kb_catalog.specs.declared.version.Version.{Version}
 use Rattle.kb_due.specs.Facts.{FactsValue}
-use Rattle.kb_events.specs.Cuts.{HasEntry, KeepsDays}
+use Rattle.kb_events.specs.Private.Cuts.{HasEntry, KeepsDays}
 use Rattle.kb_events.proofs.AmongDays.{KeepsDays-trans, HasEntries-more, IfSome-more, HasLeadOf-more}
 use Rattle.kb_events.proofs.cutting.push_changes.Goals as goal
 
@@ -23,7 +23,8 @@ returns c =
       keeps = KeepsDays-trans c.args.days.now.items first last one.keeps from_first;
       has = record {
         entries = subst (All (HasEntry last c.args.facts.now.catalog)) c.as_slice.ensures.same
-            (subst (λ (catalog : List Version). All (HasEntry last catalog) c.as_slice.result.now) (ap (λ (facts : FactsValue). facts.catalog) c.facts.view_is)
+            (subst (λ (catalog : List Version). All (HasEntry last catalog) c.as_slice.result.now)
+            (ap (λ (facts : FactsValue). facts.catalog) c.facts.view_is)
             (HasEntries-more first last c.facts.inside.catalog.now c.as_slice.result.now from_first one.has));
         cancel = IfSome-more second last c.args.subscription.now.cancel from_second two.has;
         lead = HasLeadOf-more third last c.args.facts.now c.args.subscription.now from_third three.has;

@@ -2,7 +2,7 @@
 use Rattle.std.proofs.Common.{ℕ, List, drop, map}
 use Rattle.kb_catalog.specs.declared.version.Phase.{Phase}
 use Rattle.kb_align.specs.Phases.{starts_from, phase_starts}
-use Rattle.kb_events.specs.Cuts.{HasStarts, KeepsDays}
+use Rattle.kb_events.specs.Private.Cuts.{HasStarts, KeepsDays}
 use Rattle.kb_events.proofs.cutting.push_starts.Given as goal
 
 abbrev pub invariant-loop-phase : goal.invariant-loop-phase

@@ -1,35 +1,50 @@
 -- Each period is told after those before it, until one has no cell or begins after the billed date.
-use Rattle.std.proofs.Common.{rules, ◌<◌, ◌≤◌, sym, ◌∙◌, map, arith}
+use Rattle.std.proofs.Common.{rules, ◌<◌, ◌≤◌, sym, subst, ◌∙◌, map, arith}
 use Rattle.kb_events.specs.Pieces.{stretch_of}
+use Rattle.kb_events.specs.Private.Shorts.{AreShort}
+use Rattle.kb_events.proofs.InCells.{push_run-short}
 use Rattle.kb_events.proofs.PeriodRuns.{runs-none, runs-late, runs-period}
 use Rattle.kb_events.proofs.periods.push_periods.Goals as goal
 
-pub returns-in_default : goal.returns-in_default
-returns-in_default c key first within told so_far =
+pub returns-in_default-clause-value : goal.returns-in_default-clause-value
+returns-in_default-clause-value c key first within told so_far =
     let walk = c.loop-billed.invariant in
-    runs-none c.args.facts.now c.args.subscription.now c.args.governing.now c.args.billed c.args.from c.args.to first key within told
-    c.loop-billed.day (map stretch_of c.loop-billed.found.items) walk.0 walk.1 (sym c.cell_by.ensures.value ∙ c.in_default.is) (walk.2 key first within told so_far)
+    runs-none c.args.facts.now c.args.subscription.now c.args.governing.now c.args.billed c.args.from
+    c.args.to first key within told
+    c.loop-billed.day (map stretch_of c.loop-billed.found.items) walk.0 walk.1
+    (sym c.cell_by.ensures.value ∙ c.in_default.is) (walk.2 key first within told so_far)
 
-pub returns-then-lt : goal.returns-then-lt
-returns-then-lt c key first within told so_far =
+pub returns-then-lt-clause-value : goal.returns-then-lt-clause-value
+returns-then-lt-clause-value c key first within told so_far =
     let walk = c.loop-billed.invariant in
     let late : c.args.billed < c.in-Some.cell.start = search rules in
-    runs-late c.args.facts.now c.args.subscription.now c.args.governing.now c.args.billed c.args.from c.args.to first key within told
-    c.loop-billed.day c.in-Some.cell (map stretch_of c.loop-billed.found.items) walk.0 walk.1 c.in-Some.ensures.period late (walk.2 key first within told so_far)
+    runs-late c.args.facts.now c.args.subscription.now c.args.governing.now c.args.billed c.args.from
+    c.args.to first key within told
+    c.loop-billed.day c.in-Some.cell (map stretch_of c.loop-billed.found.items) walk.0 walk.1
+    c.in-Some.ensures.period late (walk.2 key first within told so_far)
 
 pub loop-billed-preserved : goal.loop-billed-preserved
 loop-billed-preserved c =
     let walk = c.loop-billed.invariant in
     let begun : c.in-Some.cell.start ≤ c.args.billed = search rules in
     let before : c.loop-billed.day < c.args.to = search rules in
-    let some : c.loop-billed.day < c.earlier-next.result = c.earlier-next.ensures.greatest c.loop-billed.day c.in-Some.ensures.has_day.1 before in
+    let some : c.loop-billed.day < c.earlier-next.result =
+    c.earlier-next.ensures.greatest c.loop-billed.day c.in-Some.ensures.has_day.1 before in
     let inside : c.earlier-next.result ≤ c.args.to = c.earlier-next.ensures.second in
     let within_period : c.earlier-next.result ≤ c.in-Some.cell.end = c.earlier-next.ensures.first in (
       omega (arith, walk.0, some),
       inside,
       (λ key first within told so_far.
           c.in_ok-push_run.ensures
-          ∙ runs-period c.args.facts.now c.args.subscription.now c.args.governing.now c.args.billed c.args.from c.args.to first key within told
-          c.loop-billed.day c.earlier-next.result c.in-Some.cell (map stretch_of c.loop-billed.found.items) walk.0 some inside within_period
-          (sym c.cell_by.ensures.value ∙ c.in-Some.is) c.in-Some.ensures.period c.in-Some.ensures.longest begun (walk.2 key first within told so_far)),
+          ∙ runs-period c.args.facts.now c.args.subscription.now c.args.governing.now c.args.billed
+          c.args.from c.args.to first key within told
+          c.loop-billed.day c.earlier-next.result c.in-Some.cell (map stretch_of c.loop-billed.found.items)
+          walk.0 some inside within_period
+          (sym c.cell_by.ensures.value ∙ c.in-Some.is) c.in-Some.ensures.period c.in-Some.ensures.longest
+          begun (walk.2 key first within told so_far)),
+      (λ so_far.
+          subst AreShort (sym c.in_ok-push_run.ensures)
+          (push_run-short (map stretch_of c.loop-billed.found.items) c.loop-billed.day c.earlier-next.result
+          c.in-Some.cell (walk.3 so_far)
+          c.in-Some.ensures.longest)),
     )

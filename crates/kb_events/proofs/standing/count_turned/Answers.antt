@@ -7,7 +7,11 @@ use Rattle.kb_events.proofs.standing.count_turned.Goals as goal
 pub returns-clause-turned : goal.returns-clause-turned
 returns-clause-turned c =
     let day = c.args.day in
-    let parted = IsPartitionedBy-leb (λ (turn : ℕ). turn) _ day (IsNonDecreasingBy-rising c.args.turns.now c.requires.rising) in
+    let parted = IsPartitionedBy-leb (λ (turn : ℕ). turn) _ day
+    (IsNonDecreasingBy-rising c.args.turns.now c.requires.rising) in
     let point =
-    IsPartitionPoint-from_clause (λ (turn : ℕ). nat_le turn day) _ _ c.partition_point.ensures.partitioned parted (λ a r q k. search rules) in
-    ((λ k d low high. leb-true _ day (point.0 k d low high)), (λ k d low high. leb-false _ day (point.1 k d low high)))
+    IsPartitionPoint-from_clause (λ (turn : ℕ). nat_le turn day) _ _ c.partition_point.ensures.partitioned
+    parted (λ a r q k. search rules) in (
+      (λ k d low high. leb-true _ day (point.0 k d low high)),
+      (λ k d low high. leb-false _ day (point.1 k d low high)),
+    )

@@ -10,9 +10,10 @@ use Rattle.kb_blocking.specs.Blocking.{is_on, turns}
 abbrev pub AreTurns : List BlockState → Chain → List ℕ → Type 0
 AreTurns states chain turning = (day : ℕ) → Contains turning day ↔ (turns states chain Billing day ≡ true)
 
--- on a day the flag is on or not, and no later day than one turned it by then; where none did, that one is the first day on
--- which cells are told
-pub record IsStanding (states : List BlockState) (chain : Chain) (day : ℕ) (blocked : Bool) (turn : ℕ) : Type 0 where
+-- on a day the flag is on or not, and no later day than one turned it by then; where none did, that one is
+-- the first day on which cells are told
+pub record IsStanding (states : List BlockState) (chain : Chain) (day : ℕ) (blocked : Bool) (turn : ℕ) : Type
+    0 where
   pub on : is_on states chain Billing day ≡ blocked
   pub past : turn ≤ day
   pub turned : (turn ≡ first_day) ⊎ (turns states chain Billing turn ≡ true)

@@ -2,7 +2,8 @@
 use Rattle.std.proofs.Common.{map}
 use Rattle.kb_events.specs.Pieces.{stretch_of}
 use Rattle.kb_events.proofs.FeeDays.{AreFeesTold}
-use Rattle.kb_events.proofs.charging_once.fees_by.Given as goal
+use Rattle.kb_events.proofs.fee_pieces.fees_by.Given as goal
 
 abbrev pub invariant-loop-cut : goal.invariant-loop-cut
-invariant-loop-cut l = AreFeesTold l.facts l.subscription l.fn.billed l.course.cuts.items l.cut-index l.from (map stretch_of l.found.items)
+invariant-loop-cut l = AreFeesTold l.facts l.subscription l.fn.billed l.course.cuts.items l.cut-index l.from
+    (map stretch_of l.found.items)

@@ -1,19 +1,18 @@
 -- Days among which all are that may change what is charged.
-use Rattle.std.specs.Prelude.{ℕ, ◌≡◌, ◌<◌, ◌≤◌, ◌+◌, true, List, get_or, Contains, All, Option, IfSome}
+use Rattle.std.specs.Prelude.{ℕ, ◌≡◌, ◌<◌, ◌≤◌, true, List, get_or, Contains, All, Option, IfSome}
 use Rattle.std.specs.List.Sorted.{IsNonDecreasing}
 use Rattle.kb_catalog.specs.declared.version.Version.{Version}
 use Rattle.kb_align.specs.Phases.{phase_starts}
 use Rattle.kb_timeline.specs.declared.entry.Entry.{Entry}
 use Rattle.kb_timeline.specs.declared.subscription.Subscription.{Subscription}
 use Rattle.kb_due.specs.Governing.{Choice, choice_of, spans_of}
-use Rattle.kb_days.specs.Calendar.{first_day}
+use Rattle.kb_days.specs.Calendar.{first_day, last_charged, end_of_days}
 use Rattle.kb_due.specs.Facts.{FactsValue}
 use Rattle.kb_due.specs.Life.{lead_subscription}
-use Rattle.kb_due.specs.DueDays.{last_billed}
 
 -- a day is among some, if cells are told on it
 abbrev pub HasDay : List ℕ → ℕ → Type 0
-HasDay days day = first_day ≤ day → day ≤ last_billed → Contains days day
+HasDay days day = first_day ≤ day → day ≤ last_charged → Contains days day
 
 -- each start is among some days, where it is reached
 abbrev pub HasStarts : List ℕ → List (Option ℕ) → Type 0
@@ -22,7 +21,8 @@ HasStarts days starts = All (λ (start : Option ℕ). IfSome start (HasDay days)
 -- the starts of the phases that an entry counts are among some days
 abbrev pub HasPhases : List ℕ → List Version → Entry → Type 0
 HasPhases days catalog entry =
-    IfSome (choice_of catalog entry.plan) (λ (choice : Choice). HasStarts days (phase_starts entry.anchor (spans_of choice.plan)))
+    IfSome (choice_of catalog entry.plan) (λ (choice : Choice). HasStarts days
+    (phase_starts entry.anchor (spans_of choice.plan)))
 
 -- the day of an entry is among some days, and so are the starts of its phases
 abbrev pub HasEntry : List ℕ → List Version → Entry → Type 0
@@ -38,18 +38,16 @@ HasLead days subscription = HasEntryDays days subscription.entries × IfSome sub
 
 -- the days of an add-on's lead are among some days
 abbrev pub HasLeadOf : List ℕ → FactsValue → Subscription → Type 0
-HasLeadOf days facts subscription = subscription.addon ≡ true → IfSome (lead_subscription facts subscription) (HasLead days)
+HasLeadOf days facts subscription = subscription.addon ≡ true
+    → IfSome (lead_subscription facts subscription) (HasLead days)
 
--- all days on which something may change for a subscription are among some days but for the turns of the billing flag:
--- those of its entries and their phases, of its cancellation, and of its lead if it is an add-on
+-- all days on which something may change for a subscription are among some days but for the turns of the
+-- billing flag: those of its entries and their phases, of its cancellation, and of its lead if it is an
+-- add-on
 pub record HasChanges (days : List ℕ) (facts : FactsValue) (subscription : Subscription) : Type 0 where
   pub entries : All (HasEntry days facts.catalog) subscription.entries
   pub cancel : IfSome subscription.cancel (HasDay days)
   pub lead : HasLeadOf days facts subscription
-
--- the day after the last one on which cells are told
-abbrev pub end_of_days : ℕ
-end_of_days = last_billed + 1
 
 -- no day of some lies behind the end
 abbrev pub AreTold : List ℕ → Type 0

@@ -1,14 +1,15 @@
 //! The fees of a subscription.
-ghost use Rattle.std.specs.Prelude.{◌≡◌, ◌<◌, ◌≤◌, ◌+◌, ◌-◌, true, length, map, All, IfOk, IfSome, OnOk};
+ghost use Rattle.std.specs.Prelude.{◌≡◌, ◌<◌, ◌≤◌, ◌+◌, ◌-◌, ℕ, true, length, map, All, None, IfOk, IfSome};
+ghost use Rattle.std.specs.Prelude.{OnOk};
 ghost use Rattle.kb_base.specs.Runs.{Stretch, runs, AreRuns};
-ghost use Rattle.kb_days.specs.Calendar.{first_day};
+ghost use Rattle.kb_days.specs.Calendar.{first_day, charged_days, end_of_days};
 ghost use Rattle.kb_due.specs.declared.cell.Cell.{Cell};
 ghost use Rattle.kb_due.specs.DueDays.{fee_of, fee_on};
-ghost use Rattle.kb_events.specs.Cuts.{HasDay, AreCuts, end_of_days};
-ghost use Rattle.kb_events.specs.Ends.{IsLifeEnd};
-ghost use Rattle.kb_events.specs.QuietDays.{IsSteadyBetween};
+ghost use Rattle.kb_events.specs.Private.Cuts.{HasDay, AreCuts};
+ghost use Rattle.kb_events.specs.Private.Ends.{IsLifeEnd};
+ghost use Rattle.kb_events.specs.Private.QuietDays.{IsSteadyBetween};
 ghost use Rattle.kb_events.specs.Pieces as told;
-ghost use Rattle.kb_events.specs.Pieces.{same_cell, stretch_of, told_days};
+ghost use Rattle.kb_events.specs.Pieces.{same_cell, stretch_of, IsInCell};
 
 use crate::course::{Course, course_of};
 use crate::cutting::cut_day;
@@ -22,15 +23,22 @@ use kb_timeline::Subscription;
 use std::alloc::Global;
 
 /// The fees of the subscription at a place, at a billed date: its fee cells, each of one day, by day.
-pub fn fees(alloc: Global, facts: &Facts, sub: u32, t: Day) -> Result<Vec<Piece>, NoMemory>
+pub fn fees(alloc: Global, facts: &Facts, sub: u32, billed: Day) -> Result<Vec<Piece>, NoMemory>
     requires there { sub < length facts.now.timeline.subscriptions }
-    ensures value { IfOk result (λ found. map stretch_of found.items ≡ told.fees facts.now sub t) }
-    ensures longest { IfOk result (λ found. AreRuns same_cell (fee_on facts.now sub t) first_day end_of_days (map stretch_of found.items)) }
-    ensures one_day { IfOk result (λ found. All (λ (stretch : Stretch Cell). stretch.to ≡ stretch.from + 1) (map stretch_of found.items)) }
+    ensures value { IfOk result (λ found. map stretch_of found.items ≡ told.fees facts.now sub billed) }
+    ensures longest { IfOk result (λ found. AreRuns same_cell (fee_on facts.now sub billed) first_day
+        end_of_days (map stretch_of found.items)) }
+    ensures one_day { IfOk result (λ found. All (λ (stretch : Stretch Cell). stretch.to ≡ stretch.from + 1)
+        (map stretch_of found.items)) }
+    ensures in_cells { IfOk result (λ found. All IsInCell (map stretch_of found.items)) }
+    ensures early { IfOk result (λ found. (day : ℕ) → day < first_day → fee_on facts.now sub billed day
+        ≡ None) }
+    ensures late { IfOk result (λ found. (day : ℕ) → end_of_days ≤ day → fee_on facts.now sub billed day
+        ≡ None) }
 {
     let subscription = facts.timeline.subscription(sub);
     let course = course_of(alloc, facts, subscription, sub)?;
-    fees_by(alloc, facts, subscription, t, &course)
+    fees_by(alloc, facts, subscription, billed, &course)
 }
 
 /// The fees of a subscription, from cut to cut: a phase starts on no other day.
@@ -44,7 +52,8 @@ fn fees_by(
     requires cuts { AreCuts course.now.cuts.items facts.now subscription.now }
     requires ends { subscription.now.addon ≡ true → IsLifeEnd facts.now subscription.now course.now.end }
     requires cut { IfSome course.now.end (HasDay course.now.cuts.items) }
-    ensures { IfOk result (λ found. map stretch_of found.items ≡ runs same_cell (fee_of facts.now subscription.now billed) first_day told_days) }
+    ensures { IfOk result (λ found. map stretch_of found.items ≡ runs same_cell
+        (fee_of facts.now subscription.now billed) first_day charged_days) }
 {
     let mut found = Vec::new(alloc);
     let mut from = first_reach();
@@ -66,8 +75,8 @@ fn fees_by(
     Ok(found)
 }
 
-/// Adds the fees of the days from one up to another between which no entry and no phase begins: only the first may have
-/// one.
+/// Adds the fees of the days from one up to another between which no entry and no phase begins: only the
+/// first may have one.
 fn push_fees(
     found: &mut Vec<Piece>,
     facts: &Facts,
@@ -82,8 +91,10 @@ fn push_fees(
     requires told { to ≤ end_of_days }
     ensures { OnOk result (IsSteadyBetween facts.now subscription.now from to
         → (subscription.now.addon ≡ true → IsLifeEnd facts.now subscription.now end)
-        → map stretch_of found.old.items ≡ runs same_cell (fee_of facts.now subscription.now billed) first_day (from - first_day)
-        → map stretch_of found.new.items ≡ runs same_cell (fee_of facts.now subscription.now billed) first_day (to - first_day)) }
+        → map stretch_of found.old.items ≡ runs same_cell (fee_of facts.now subscription.now billed) first_day
+        (from - first_day)
+        → map stretch_of found.new.items ≡ runs same_cell (fee_of facts.now subscription.now billed) first_day
+        (to - first_day)) }
 {
     if billed.reach() < from {
         return Ok(());

@@ -12,4 +12,5 @@ begun_by billed cell = if nat_le cell.start billed then Some cell else None
 
 -- the cell of a day by what governs it, if its period has begun by the billed date
 abbrev pub begun_cell : FactsValue → Subscription → Governing → ℕ → ℕ → Option Cell
-begun_cell facts subscription governing billed day = option_and_then (begun_by billed) (cell_by facts subscription day governing)
+begun_cell facts subscription governing billed day =
+    option_and_then (begun_by billed) (cell_by facts subscription day governing)

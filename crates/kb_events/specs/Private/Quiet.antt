@@ -29,7 +29,8 @@ AreStartsQuiet d e starts = All (λ (start : Option ℕ). IfSome start (IsQuiet 
 -- no phase of the plan that an entry chose, counted from its anchor, starts there
 abbrev pub IsPlanQuiet : List Version → ℕ → ℕ → Entry → Type 0
 IsPlanQuiet catalog d e entry =
-    IfSome (choice_of catalog entry.plan) (λ (choice : Choice). AreStartsQuiet d e (phase_starts entry.anchor (spans_of choice.plan)))
+    IfSome (choice_of catalog entry.plan) (λ (choice : Choice). AreStartsQuiet d e
+    (phase_starts entry.anchor (spans_of choice.plan)))
 
 -- none of the plan that the entry governing the first of the two days chose
 abbrev pub ArePhasesQuiet : List Version → List Entry → ℕ → ℕ → Type 0
