@@ -56,8 +56,7 @@ module _ {V : Type 0} (same : V → V → Bool) where
   with_day-within low high day None later above below within = within
   with_day-within low high day (Some value) [] above below within =
       All-cons (IsWithin low high) _ [] (record {
-        begins =
-            above;
+        begins = above;
         some_day = omega arith;
         ends = below;
       }) within

@@ -1,6 +1,5 @@
--- Machines. A machine is fed inputs, one after another: lines, or requests. It is the relation of its steps:
--- in a
--- state and to an input, it may say a text and go on in another state. It may choose.
+-- Machines. A machine is fed inputs, one after another: lines, or requests. It is the relation of its
+-- steps: in a state and to an input, it may say a text and go on in another state. It may choose.
 use Rattle.std.specs.Prelude.{ℕ, ◌≡◌, List, [], ◌∷◌, ◌++◌}
 
 -- A machine: what a step says and where it goes on, and what a step that a fault cut short may have said and

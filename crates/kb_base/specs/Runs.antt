@@ -34,12 +34,9 @@ runs same key day (suc count) = with_day same day (key day) (runs same key (day 
 
 two_runs : runs nat_eq (λ day. if day == 4 then None else Some (day / 6)) 3 5
     ≡ record {
-      from =
-          3;
-      to =
-          4;
-      value =
-          0;
+      from = 3;
+      to = 4;
+      value = 0;
     } ∷ record { from = 5; to = 6; value = 0 } ∷ record { from = 6; to = 8; value = 1 } ∷ []
 unfolding runs
 two_runs = refl

@@ -148,8 +148,7 @@ charges_from-bills items day number (stretch ∷ later) none =
     (charges_from-bills items day (number + 1) later (λ n above. none n (omega arith)))
 
 -- A charge of a list whose items are numbered from this number on: the item of its number is a bill that
--- covers
--- the day by its cell.
+-- covers the day by its cell.
 pub record IsChargeOf (items : List FirstItem) (day number : ℕ) (charge : Charge) : Type 0 where
   pub low : number ≤ charge.number
   pub high : charge.number < number + length items

@@ -92,8 +92,7 @@ abbrev pub bill_of : Stretch FirstCell → FirstItem
 bill_of stretch = Bill stretch.from stretch.to stretch.value
 
 -- the items that make the charges of each day those that are due: one repair for each run of days with the
--- same wrong
--- charge, then one bill for each run of days with the same missing cell
+-- same wrong charge, then one bill for each run of days with the same missing cell
 unfoldable pub new_items : List FirstItem → (ℕ → Option FirstCell) → ℕ → ℕ → List FirstItem
 new_items items due day count =
     map repair_of (runs nat_eq (wrong_on items due) day count)

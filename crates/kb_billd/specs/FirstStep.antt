@@ -14,8 +14,7 @@ pub record Refuses (old : Book) (said : List ℕ) (new : Book) : Type 0 where
   pub same : new ≡ old
 
 -- A command is accepted: the book and the answer are those of the definitions, a day whose due cell stays
--- gets no
--- new item, and the new items amount to what is charged now less what was charged before.
+-- gets no new item, and the new items amount to what is charged now less what was charged before.
 pub record Accepts (old : Book) (command : FirstCommand) (said : List ℕ) (new : Book) : Type 0 where
   pub answer : said ≡ ok_text (total old.items (issued old command)) (unpaid new.dates)
   pub led : new ≡ performed old command
@@ -31,8 +30,7 @@ StepsBy old (Some command) said new =
     × (IsFalse (refuses old.dates command) → Accepts old command said new)
 
 -- The machine answers a line by this text and goes on in the new book, in which each day has exactly the
--- charge
--- that is due, or none where nothing is due.
+-- charge that is due, or none where nothing is due.
 pub record FirstStep (old : Book) (line said : List ℕ) (new : Book) : Type 0 where
   pub command : Option FirstCommand
   pub reads : IsReading line command
@@ -45,8 +43,7 @@ abbrev pub first_machine : Machine Book (List ℕ)
 first_machine = record { step = FirstStep; cut = λ old line said new. (said ≡ []) × (new ≡ old) }
 
 -- What always holds of a book: each day has exactly the charge that is due, repairs name items of the list,
--- and the
--- days of each bill lie in its cell.
+-- and the days of each bill lie in its cell.
 pub record IsSound (book : Book) : Type 0 where
   pub settled : IsSettled book.items (due book.dates) first_day charged_days
   pub named : NamesItems book.items

@@ -13,10 +13,6 @@ use Rattle.kb_due.specs.Governing.{Governing, governing_on}
 use Rattle.kb_due.specs.Life.{is_live_of}
 use Rattle.kb_due.specs.CycleDays.{cycle_day}
 
--- the most days that a billing period has: two years, of which one is a leap year
-abbrev pub max_period_days : ℕ
-max_period_days = 731
-
 -- billing is blocked for a subscription on a day
 abbrev pub is_unbilled : FactsValue → Subscription → ℕ → ℕ → Bool
 is_unbilled facts subscription sub day = is_on facts.blocks (chain_of subscription sub) Billing day

@@ -53,8 +53,7 @@ governing_phase entry choice at = option_map with_phase (slice_get choice.plan.p
       choice = choice;
       place = at.index;
       start = at.start;
-      phase =
-          phase;
+      phase = phase;
     }
 
 -- what governs a day by what an entry chose

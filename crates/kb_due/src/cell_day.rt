@@ -3,7 +3,8 @@ ghost use Rattle.std.specs.Prelude.{None, ◌≡◌, ◌<◌, ◌≤◌, ◌+◌
 ghost use Rattle.kb_days.specs.Calendar.{first_day, last_charged, end_of_days};
 ghost use Rattle.kb_align.specs.Boundaries.{IsPeriodOf};
 ghost use Rattle.kb_due.specs.CycleDays.{cycle_day};
-ghost use Rattle.kb_due.specs.Cells.{max_period_days, is_unbilled, cell_by, cell_on};
+ghost use Rattle.kb_align.specs.PeriodDays.{max_period_days};
+ghost use Rattle.kb_due.specs.Cells.{is_unbilled, cell_by, cell_on};
 
 use crate::chain::chain_of;
 use crate::cycle_day::cycle_day;

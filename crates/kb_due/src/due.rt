@@ -2,7 +2,7 @@
 ghost use Rattle.std.specs.Prelude.{None, ◌≡◌, ◌<◌, ◌≤◌, ◌+◌, length, IfSome};
 ghost use Rattle.kb_days.specs.Calendar.{first_day, end_of_days};
 ghost use Rattle.kb_blocking.specs.Blocking.{turns};
-ghost use Rattle.kb_due.specs.Cells.{max_period_days};
+ghost use Rattle.kb_align.specs.PeriodDays.{max_period_days};
 ghost use Rattle.kb_due.specs.DueDays.{is_event, event_by, due_by, due_of, due_on};
 
 use crate::cell_day::cell_on;

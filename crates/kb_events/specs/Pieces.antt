@@ -6,7 +6,7 @@ use Rattle.kb_timeline.specs.declared.entry.PlanRef.{PlanRef}
 use Rattle.kb_due.specs.declared.cell.Cell.{Cell}
 use Rattle.kb_due.specs.declared.cell.Piece.{Piece}
 use Rattle.kb_due.specs.Facts.{FactsValue}
-use Rattle.kb_due.specs.Cells.{max_period_days}
+use Rattle.kb_align.specs.PeriodDays.{max_period_days}
 use Rattle.kb_due.specs.DueDays.{due_on, fee_on}
 
 -- two references name the same plan

@@ -7,7 +7,8 @@ use Rattle.kb_days.specs.Dates.{february, march, april}
 use Rattle.kb_align.specs.Phases.{phase_on, phase_starts}
 use Rattle.kb_align.specs.PeriodDays.{period_on, last_day_on, next_day_after, is_boundary, first_month}
 use Rattle.kb_blocking.specs.Blocking.{is_on}
-use Rattle.kb_due.specs.Cells.{max_period_days, cell_on}
+use Rattle.kb_align.specs.PeriodDays.{max_period_days}
+use Rattle.kb_due.specs.Cells.{cell_on}
 use Rattle.kb_due.specs.DueDays.{due_on, fee_on}
 use Rattle.kb_due.specs.SmallFacts.{facts, gold_in_march}
 use Rattle.kb_events.specs.Pieces.{same_cell, IsInCell}

@@ -2,7 +2,7 @@
 use Rattle.std.specs.Prelude.{◌+◌, ◌≤◌, List, All}
 use Rattle.kb_base.specs.Runs.{Stretch}
 use Rattle.kb_due.specs.declared.cell.Cell.{Cell}
-use Rattle.kb_due.specs.Cells.{max_period_days}
+use Rattle.kb_align.specs.PeriodDays.{max_period_days}
 
 -- a cell is no longer than that
 abbrev pub IsShort : Cell → Type 0
