@@ -74,8 +74,8 @@ const BLOCKED: [(Option<u32>, Option<u32>, &str, (bool, bool, bool)); 15] = [
     (None, None, "2024-04-17", (false, false, false)),
 ];
 
-/// The days and the flags of two states of a bundle, in the order in which they are accepted; a day, and whether
-/// billing is blocked on it.
+/// The days and the flags of two states of a bundle, in the order in which they are accepted; a day, and
+/// whether billing is blocked on it.
 const ORDERS: [((&str, Flags), (&str, Flags), &str, bool); 6] = [
     (
         ("2024-03-18", PAUSED),

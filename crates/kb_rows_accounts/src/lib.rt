@@ -1,5 +1,5 @@
-//! Rows of accounts: what public calls answer of phases, billing periods, timelines and blocking states, as worked
-//! out by hand or by a look at each day.
+//! Rows of accounts: what public calls answer of phases, billing periods, timelines and blocking states, as
+//! worked out by hand or by a look at each day.
 #![tactic(auto)]
 
 #[cfg(test)]

@@ -18,8 +18,8 @@ const PERIODS: [Period; 9] = [
     Period::Biennial,
 ];
 
-/// The first day of a subscription, a period, a cycle day, a day, and the first days of the day's period and of the
-/// next one.
+/// The first day of a subscription, a period, a cycle day, a day, and the first days of the day's period and
+/// of the next one.
 const ROWS: [(&str, Period, u32, &str, &str, &str); 25] = [
     // the ends of months
     (
@@ -227,8 +227,8 @@ const ROWS: [(&str, Period, u32, &str, &str, &str); 25] = [
     ),
 ];
 
-/// First days of subscriptions and days: over leap days, at the first day, before the cycle day, and the last day that
-/// may be charged.
+/// First days of subscriptions and days: over leap days, at the first day, before the cycle day, and the last
+/// day that may be charged.
 const SEARCHED: [(&str, &str); 5] = [
     ("2024-01-15", "2024-02-29"),
     ("2024-01-31", "2024-01-31"),
