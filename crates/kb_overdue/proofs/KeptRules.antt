@@ -10,14 +10,14 @@ use Rattle.std.proofs.lemmas.List.Folds.{Any-from_list_any, list_any_at}
 use Rattle.kb_base.specs.Offenders.{passes_at}
 use Rattle.kb_overdue.specs.declared.state.OverdueState.{OverdueState}
 use Rattle.kb_overdue.specs.declared.config.ConfigRule.TheVariants.{Names, Conditions}
-use Rattle.kb_overdue.specs.ConfigRules.{clear_name, has_name_of, is_unconditional, is_broken_at, first_offender, AreStates}
+use Rattle.kb_overdue.specs.ConfigRules.{max_states, clear_name, has_name_of, is_unconditional, is_broken_at, first_offender, AreStates}
 use Rattle.kb_base.proofs.FirstPlaces.{first_place-none, first_place-fails}
 use Rattle.kb_overdue.proofs.ToldFaults.{fault_of-many, fault_of-names, fault_of-conditions, fault_of-none}
 
--- there are at most sixteen states
-pub few_states : (states : List OverdueState) → AreStates states → length states ≤ 16
+-- there are not too many states
+pub few_states : (states : List OverdueState) → AreStates states → length states ≤ max_states
 few_states states kept =
-    elim (cases_lt 16 (length states)) [
+    elim (cases_lt max_states (length states)) [
       | inl many ↦ let told = fault_of-many states many in absurd (cc)
       | inr few ↦ few
     ]
@@ -149,8 +149,8 @@ conditions_right : (states : List OverdueState) (place : ℕ)
 unfolding is_broken_at
 conditions_right states place conditioned = passes_at-fails states place is_unconditional (conditioned place)
 
--- at most sixteen states, of different names that aren't CLEAR, and each with a condition, keep the rules
-pub are_states : (states : List OverdueState) → length states ≤ 16 → NamesDiffer states
+-- states that are not too many, of different names that aren't CLEAR, and each with a condition, keep the rules
+pub are_states : (states : List OverdueState) → length states ≤ max_states → NamesDiffer states
     → ((k : ℕ) (state : OverdueState) → slice_get states k ≡ Some state → state.name ≢ clear_name)
     → ((k : ℕ) (state : OverdueState) → slice_get states k ≡ Some state → is_unconditional state ≡ false) → AreStates states
 are_states states few differ named conditioned =

@@ -20,8 +20,8 @@ after_days name days =
     }
 
 -- the most states that there may be
-abbrev pub most_states : ℕ
-most_states = 16
+abbrev pub max_states : ℕ
+max_states = 16
 
 -- the number by which a rule is told
 abbrev pub rule_number : ConfigRule → ℕ
@@ -59,7 +59,7 @@ from_the_first_day = refl
 -- where a rule is broken
 unfoldable pub is_broken_at : List OverdueState → ConfigRule → ℕ → Bool
 -- there are more states than there may be, which is told at the first of those too many
-is_broken_at states Count place = (place == most_states) && not (nat_le (length states) most_states)
+is_broken_at states Count place = (place == max_states) && not (nat_le (length states) max_states)
 -- the state's name stands earlier, or is CLEAR
 is_broken_at states Names place =
     repeats_at has_name_of states place

@@ -3,29 +3,34 @@ ghost use Rattle.std.specs.Prelude.{◌≡◌, ◌<◌, ◌≤◌, ◌↔◌, le
 ghost use Rattle.std.specs.List.{list_any};
 ghost use Rattle.kb_overdue.specs.declared.config.ConfigFault.{ConfigFault};
 ghost use Rattle.kb_overdue.specs.declared.config.ConfigRule.TheVariants.{Names, Conditions};
-ghost use Rattle.kb_overdue.specs.ConfigRules.{most_states, has_name_of, is_unconditional, is_broken_at, first_offender, fault_of, rule_number, AreStates};
+ghost use Rattle.kb_overdue.specs.ConfigRules.{max_states, has_name_of, is_unconditional, is_broken_at, first_offender, fault_of, rule_number, AreStates};
 
 use crate::OverdueState;
 use kb_base::Seq;
 use std::marker::Model;
+use thiserror::Error;
 
 /// The most states that there may be.
-const MOST_STATES: usize = 16;
+pub const MAX_STATES: usize = 16;
 
-/// A rule that overdue states have to keep. They are tried in this order.
-#[derive(Clone, Copy, Debug, PartialEq, Eq, Hash, PartialOrd, Ord)]
+/// A rule that overdue states have to keep, with what is told where it is broken. They are tried in this order.
+#[derive(Clone, Copy, Debug, Error)]
 pub enum ConfigRule {
-    /// 1: there are at most 16 states.
+    /// 1: there are at most `MAX_STATES` states.
+    #[error("there are more than {} states: take some out", MAX_STATES)]
     Count,
     /// 2: no two states have one name, and none is named CLEAR.
+    #[error("a state has the name of an earlier one, or is named CLEAR: give it another name")]
     Names,
     /// 3: each state has a condition.
+    #[error("a state has no condition: state its days, its count or its total")]
     Conditions,
 }
 
-/// The first rule that some states break, and the place, from 0, of the first offender: 16 for too
-/// many.
-#[derive(Clone, Copy, Debug, PartialEq, Eq)]
+/// The first rule that some states break, and the place, from 0, of the first offender: that behind the last one that
+/// there may be for too many.
+#[derive(Clone, Copy, Debug, Error)]
+#[error("rule {}, at place {index} from 0: {rule}", .rule.number())]
 pub struct ConfigFault {
     pub rule: ConfigRule,
     pub index: u32,
@@ -84,7 +89,7 @@ impl Config {
     pub fn states(&self) -> &[OverdueState]
         ensures same { result.now ≡ self.now }
         ensures valid { AreStates result.now }
-        ensures few { length result.now ≤ 16 }
+        ensures few { length result.now ≤ max_states }
     {
         self.states.as_slice()
     }
@@ -95,10 +100,10 @@ impl Config {
 fn fault_of(states: &[OverdueState]) -> Option<ConfigFault>
     ensures { result ≡ fault_of states.now }
 {
-    if states.len() > MOST_STATES {
+    if states.len() > MAX_STATES {
         return Some(ConfigFault {
             rule: ConfigRule::Count,
-            index: MOST_STATES as u32,
+            index: MAX_STATES as u32,
         });
     }
     if let Some(index) = first_badly_named(states) {
@@ -119,7 +124,7 @@ fn fault_of(states: &[OverdueState]) -> Option<ConfigFault>
 /// The place of the first state whose name stands earlier or is CLEAR.
 #[tactic(auto, using(kb_base::proofs::FirstPlaces::places))]
 fn first_badly_named(states: &[OverdueState]) -> Option<u32>
-    requires few { length states.now ≤ most_states }
+    requires few { length states.now ≤ max_states }
     ensures { result ≡ first_offender states.now Names }
 {
     for place in 0..states.len() {
@@ -133,7 +138,7 @@ fn first_badly_named(states: &[OverdueState]) -> Option<u32>
 /// The place of the first state without a condition.
 #[tactic(auto, using(kb_base::proofs::FirstPlaces::places))]
 fn first_unconditional(states: &[OverdueState]) -> Option<u32>
-    requires few { length states.now ≤ most_states }
+    requires few { length states.now ≤ max_states }
     ensures { result ≡ first_offender states.now Conditions }
 {
     for place in 0..states.len() {
@@ -180,93 +185,4 @@ fn is_unconditional(state: &OverdueState) -> bool
     ensures { result ≡ is_unconditional state.now }
 {
     state.days.is_none() && state.count.is_none() && state.total.is_none()
-}
-
-#[cfg(test)]
-mod tests {
-    use super::*;
-    use crate::Threshold;
-    use kb_days::Name;
-    use std::alloc::Global;
-    use std::test::Fail;
-
-    /// A state that blocks nothing, with this name and with the conditions that aren't 0.
-    fn state(name: &[u8], days: u64, count: u64, total: u64) -> Result<OverdueState, Fail> {
-        Ok(OverdueState {
-            name: Name::new(name).ok_or("a name")?,
-            days: Threshold::new(days),
-            count: Threshold::new(count),
-            total: Threshold::new(total),
-            block_change: false,
-            block_entitlement: false,
-            block_billing: false,
-        })
-    }
-
-    /// The state of a letter: a capital has a condition, a small letter has none, and a star is
-    /// named CLEAR.
-    fn letter_state(letter: u8) -> Result<OverdueState, Fail> {
-        match letter {
-            b'*' => state(b"CLEAR", 7, 0, 0),
-            b'a'..=b'z' => state(&[letter], 0, 0, 0),
-            _ => state(&[letter], 7, 0, 0),
-        }
-    }
-
-    /// The rule and the place that are told of states, one for each letter.
-    fn told(alloc: Global, letters: &str) -> Result<Option<(u32, u32)>, Fail> {
-        let mut states = Vec::new(alloc);
-        for letter in letters.bytes() {
-            let next = letter_state(letter)?;
-            // The check has to see a threshold in a state that is pushed.
-            let _days = next.days;
-            states.push(next)?;
-        }
-        match Config::check(states) {
-            Ok(_) => Ok(None),
-            Err(fault) => Ok(Some((fault.rule.number(), fault.index))),
-        }
-    }
-
-    #[test]
-    fn the_first_fault(rt: HostRuntime) -> Result<(), Fail> {
-        // the states, the rule and the place that are told
-        let cases = [
-            ("", None),
-            ("A", None),
-            ("ABCDEFGHIJKLMNOP", None),
-            ("ABCDEFGHIJKLMNOPQ", Some((1, 16))),
-            ("ABCDEFGHIJKLMNOPQR", Some((1, 16))),
-            ("ABA", Some((2, 2))),
-            ("ABBA", Some((2, 2))),
-            ("AB*", Some((2, 2))),
-            ("*", Some((2, 0))),
-            ("Ab", Some((3, 1))),
-            ("aBc", Some((3, 0))),
-            ("aBB", Some((2, 2))),
-            ("*aBCDEFGHIJKLMNOP", Some((1, 16))),
-        ];
-        for (letters, fault) in cases {
-            assert_eq!(rt; told(rt.alloc(), letters)?, fault, "{letters}");
-        }
-        Ok(())
-    }
-
-    #[test]
-    fn states_are_handed_back(rt: HostRuntime) -> Result<(), Fail> {
-        let mut blocked = state(b"BLOCKED", 14, 0, 0)?;
-        blocked.block_change = true;
-        blocked.block_entitlement = true;
-        let cases = [
-            [blocked, state(b"WARNING", 7, 0, 0)?],
-            [state(b"MANY", 0, 3, 0)?, state(b"MUCH", 0, 0, 1000)?],
-        ];
-        for states in &cases {
-            match Config::check(states.to_vec(rt.alloc())?) {
-                Ok(config) => assert!(rt; config.states() == states.as_slice()),
-                Err(_) => assert!(rt; false),
-            }
-        }
-        Ok(())
-    }
 }

@@ -7,5 +7,5 @@
 mod config;
 mod state;
 
-pub use config::{Config, ConfigFault, ConfigRule};
-pub use state::{OverdueState, Threshold};
+pub use config::{Config, ConfigFault, ConfigRule, MAX_STATES};
+pub use state::{MAX_THRESHOLD, OverdueState, Threshold};

@@ -1,11 +1,15 @@
 //! One overdue state.
-ghost use Rattle.std.specs.Prelude.{◌≡◌, ◌≤◌, ◌^◌, ◌↔◌, ℕ, IsSome, IfSome};
+ghost use Rattle.std.specs.Prelude.{◌≡◌, ◌≤◌, ◌↔◌, ℕ, IsSome, IfSome};
+ghost use Rattle.kb_overdue.specs.Thresholds.{max_threshold};
 
 use kb_days::Name;
 use std::marker::Model;
 
-/// The number that a condition wants at least: 1 to 10^12 days, invoices or minor units.
-#[derive(Clone, Copy, Debug, PartialEq, Eq, Hash, PartialOrd, Ord)]
+/// The most days, invoices or minor units that a condition wants.
+pub const MAX_THRESHOLD: u64 = 1_000_000_000_000;
+
+/// The number that a condition wants at least: 1 to `MAX_THRESHOLD` days, invoices or minor units.
+#[derive(Clone, Copy, Debug, PartialEq, Eq)]
 pub struct Threshold {
     number: u64,
 }
@@ -15,18 +19,18 @@ impl Model for Threshold {
 
     ghost view = { λ threshold. threshold.number };
 
-    ghost invariant = { λ threshold. (1 ≤ threshold.number) × (threshold.number ≤ 10 ^ 12) };
+    ghost invariant = { λ threshold. (1 ≤ threshold.number) × (threshold.number ≤ max_threshold) };
 
     ghost inverse = { λ number. record { number = number } };
 }
 
 impl Threshold {
-    /// The threshold with this number; none outside 1 to 10^12.
+    /// The threshold with this number; none outside 1 to `MAX_THRESHOLD`.
     pub fn new(number: u64) -> Option<Threshold>
-        ensures accepted { IsSome result ↔ ((1 ≤ number) × (number ≤ 10 ^ 12)) }
+        ensures accepted { IsSome result ↔ ((1 ≤ number) × (number ≤ max_threshold)) }
         ensures value { IfSome result (λ threshold. threshold ≡ number) }
     {
-        if (1..=1_000_000_000_000).contains(&number) {
+        if (1..=MAX_THRESHOLD).contains(&number) {
             Some(Threshold { number })
         } else {
             None
@@ -37,14 +41,14 @@ impl Threshold {
     pub fn number(self) -> u64
         ensures value { result ≡ self }
         ensures first { 1 ≤ result }
-        ensures last { result ≤ 10 ^ 12 }
+        ensures last { result ≤ max_threshold }
     {
         self.number
     }
 }
 
-/// A state of an account that doesn't pay. It is taken where each condition that is stated holds,
-/// and blocks what its flags say.
+/// A state of an account that doesn't pay. It is taken if each condition that is stated holds, and blocks what its
+/// flags say.
 #[derive(Clone, Copy, Debug, PartialEq, Eq)]
 pub struct OverdueState {
     pub name: Name,
@@ -57,24 +61,4 @@ pub struct OverdueState {
     pub block_change: bool,
     pub block_entitlement: bool,
     pub block_billing: bool,
-}
-
-#[cfg(test)]
-mod tests {
-    use super::*;
-    use std::test::Fail;
-
-    #[test]
-    fn ends_of_a_threshold(rt: HostRuntime) -> Result<(), Fail> {
-        for number in [1, 2, 1_000_000_000_000] {
-            assert_eq!(rt;
-                Threshold::new(number).ok_or("a threshold")?.number(),
-                number
-            );
-        }
-        for number in [0, 1_000_000_000_001, u64::MAX] {
-            assert_eq!(rt; Threshold::new(number), None, "{number}");
-        }
-        Ok(())
-    }
 }
