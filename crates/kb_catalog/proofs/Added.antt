@@ -6,7 +6,7 @@ use Rattle.std.proofs.lemmas.List.Elements.{All-push}
 use Rattle.std.proofs.lemmas.List.Quantifiers.{all_pairs_push}
 use Rattle.kb_catalog.specs.declared.version.Version.{Version}
 use Rattle.kb_catalog.specs.VersionRules.{IsValid}
-use Rattle.kb_catalog.specs.Catalogs.{IsCatalog, IsLater}
+use Rattle.kb_catalog.specs.Catalogs.{max_versions, IsCatalog, IsLater}
 
 -- a version that is later than the last one is later than each
 later-each : (versions : List Version) (version : Version) → IsCatalog versions → IsLater versions version
@@ -26,9 +26,9 @@ later-each versions version is later place other within = by_place (cases_lt pla
         let same : length versions - 1 ≡ place = omega arith in
         subst (λ (p : ℕ). (get_or versions p other).effective < version.effective) same last
 
--- a later, valid version is added to at most 63
+-- a later, valid version is added where there is room
 pub IsCatalog-push : (versions : List Version) (version : Version) → IsCatalog versions → IsLater versions version
-    → IsValid version → (length versions ≡ 64 → ⊥) → IsCatalog (versions ++ version ∷ [])
+    → IsValid version → (length versions ≡ max_versions → ⊥) → IsCatalog (versions ++ version ∷ [])
 IsCatalog-push versions version is later valid room =
     record {
       rising = all_pairs_push (λ (earlier later : Version). earlier.effective < later.effective) versions version is.rising (later-each versions version is later);

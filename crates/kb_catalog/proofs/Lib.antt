@@ -5,3 +5,6 @@ pub mod Holding
 mod LastMembers
 pub mod Latest
 pub mod RulesHold
+pub mod DistinctNames
+pub mod LastPhases
+pub mod OnlyPlans

@@ -4,11 +4,15 @@ use Rattle.std.specs.List.{AllPairs}
 use Rattle.kb_catalog.specs.declared.version.Version.{Version}
 use Rattle.kb_catalog.specs.VersionRules.{IsValid}
 
--- what always holds of a catalog: each version's date lies before those of the later ones, there are at most 64, and
+-- the most versions that a catalog has
+abbrev pub max_versions : ℕ
+max_versions = 64
+
+-- what always holds of a catalog: each version's date lies before those of the later ones, there are not too many, and
 -- each is valid
 pub record IsCatalog (versions : List Version) : Type 0 where
   pub rising : AllPairs (λ (earlier later : Version). earlier.effective < later.effective) versions
-  pub limit : length versions ≤ 64
+  pub limit : length versions ≤ max_versions
   pub valid : All IsValid versions
 
 -- a version's date isn't after that of the last version, where there is one

@@ -10,3 +10,4 @@ pub mod SmallLookUps
 pub mod LookUp
 pub mod Catalogs
 pub mod Alignments
+pub mod ValidVersions

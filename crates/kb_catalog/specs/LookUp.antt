@@ -1,5 +1,6 @@
 -- What billing asks of a catalog.
 use Rattle.std.specs.Prelude.{ℕ, ◌+◌, Bool, true, false, ◌&&◌, bytes_eq, nat_le, List, [], ◌∷◌, find, Option, Some, None, option_map}
+use Rattle.std.specs.List.{position_from}
 use Rattle.kb_days.specs.declared.period.Period.{Period}
 use Rattle.kb_catalog.specs.declared.version.Version.{Version}
 use Rattle.kb_catalog.specs.declared.version.Plan.{Plan}
@@ -30,15 +31,6 @@ version_at_from place (version ∷ later) day = latest (version_at_from (place +
 abbrev pub version_at : List Version → ℕ → Option ℕ
 version_at versions day = version_at_from 0 versions day
 
--- the place of the first member that passes a test
-abbrev pub place_from : {A : Type 0} → ℕ → (A → Bool) → List A → Option ℕ
-place_from place test [] = None
-place_from place test (member ∷ later) = of_test (test member) (place_from (place + 1) test later)
-  where
-    of_test : Bool → Option ℕ → Option ℕ
-    of_test true after = Some place
-    of_test false after = after
-
 -- a plan has this product and billing period, and is among these names
 abbrev pub is_asked : List ℕ → Period → List (List ℕ) → Plan → Bool
 is_asked product period names plan =
@@ -63,8 +55,8 @@ both_places (Some list) (Some plan) = Some (list, plan)
 -- list is looked in
 abbrev pub plan_at : Version → List ℕ → Period → List ℕ → Option (ℕ × ℕ)
 plan_at version product period list =
-    both_places (place_from 0 (λ (other : PriceList). bytes_eq list other.name) version.lists)
-    (place_from 0 (is_asked product period (names_sold version.lists list)) version.plans)
+    both_places (position_from (λ (other : PriceList). bytes_eq list other.name) 0 version.lists)
+    (position_from (is_asked product period (names_sold version.lists list)) 0 version.plans)
 
 -- a condition on a value holds: it isn't stated, or the value is there and the same
 abbrev pub holds : {A : Type 0} → (A → A → Bool) → Option A → Option A → Bool

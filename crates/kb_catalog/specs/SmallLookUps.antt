@@ -1,5 +1,6 @@
 -- What the small version answers: plans looked up, and cases of a cancel policy.
 use Rattle.std.specs.Prelude.{◌≡◌, [], ◌∷◌, codes, Some, None, List, refl}
+use Rattle.kb_days.specs.Dates.{january_2020, february_2020}
 use Rattle.kb_days.specs.declared.period.Period.TheVariants.{Monthly, Annual}
 use Rattle.kb_catalog.specs.declared.version.CancelCase.{CancelCase}
 use Rattle.kb_catalog.specs.declared.ask.PlanAsk.{PlanAsk}
@@ -19,14 +20,15 @@ other_period = refl
 other_list : plan_at small (codes "Gold") Monthly (codes "SALE") ≡ None
 other_list = refl
 
--- of versions from the days 18262 and 18300 on, the later one is used from its own day on
-first_version : version_at (small ∷ record small { effective = 18300 } ∷ []) 18299 ≡ Some 0
+-- of versions from 2020-01-01 and from 2020-02-08 on, the later one is used from its own day on
+first_version : version_at (small ∷ record small { effective = february_2020 8 } ∷ []) (february_2020 7) ≡ Some 0
 first_version = refl
 
-second_version : version_at (small ∷ record small { effective = 18300 } ∷ []) 18300 ≡ Some 1
+second_version : version_at (small ∷ record small { effective = february_2020 8 } ∷ []) (february_2020 8) ≡ Some 1
 second_version = refl
 
-no_version : version_at (small ∷ []) 18261 ≡ None
+-- none is used on 2019-12-31
+no_version : version_at (small ∷ []) (january_2020 0) ≡ None
 no_version = refl
 
 -- Gold by the month in its last phase, of a category that the version doesn't tell

@@ -1,5 +1,6 @@
 -- A version of two products, and the faults of a few that differ from it.
 use Rattle.std.specs.Prelude.{◌≡◌, [], ◌∷◌, codes, Some, None, refl}
+use Rattle.kb_days.specs.Dates.{january_2020}
 use Rattle.kb_days.specs.declared.span.Span.TheVariants.{Days, Unlimited}
 use Rattle.kb_days.specs.declared.period.Period.TheVariants.{Monthly}
 use Rattle.kb_catalog.specs.declared.version.Version.{Version}
@@ -26,7 +27,7 @@ abbrev help : Product
 help = record { name = codes "Help"; category = AddOn; available = []; included = [] }
 
 -- 10 USD a month
-abbrev monthly : Phase
+abbrev pub monthly : Phase
 monthly = record {
   kind = Evergreen;
   span = Unlimited;
@@ -36,7 +37,7 @@ monthly = record {
 }
 
 -- a plan of the base product
-abbrev gold_monthly : Plan
+abbrev pub gold_monthly : Plan
 gold_monthly = record { name = codes "gold-monthly"; product = codes "Gold"; phases = monthly ∷ [] }
 
 -- nothing is asked of a plan
@@ -56,7 +57,7 @@ open_rules = record {
 -- a version in which all rules hold
 abbrev pub small : Version
 small = record {
-  effective = 18262;
+  effective = january_2020 1;
   currencies = codes "USD" ∷ [];
   products = gold ∷ help ∷ [];
   plans = gold_monthly ∷ [];

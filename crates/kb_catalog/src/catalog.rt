@@ -4,9 +4,10 @@ ghost use Rattle.std.specs.Bool.{MatchBool};
 ghost use Rattle.std.specs.Option.{option_copied};
 ghost use Rattle.std.specs.Arc.{arc_value};
 ghost use Rattle.kb_catalog.specs.LookUp.{version_at};
-ghost use Rattle.kb_catalog.specs.Catalogs.{IsCatalog, IsEarly, IsLater, IsLatest, NoneBegun};
+ghost use Rattle.kb_catalog.specs.Catalogs.{max_versions, IsCatalog, IsEarly, IsLater, IsLatest, NoneBegun};
 
 use crate::Valid;
+use kb_base::{NoMemory, shared};
 use kb_days::Day;
 use std::alloc::{AllocError, AllocFailed, Global};
 use std::marker::Model;
@@ -16,7 +17,7 @@ use thiserror::Error;
 /// The most versions that a catalog has.
 pub const MAX_VERSIONS: u32 = 64;
 
-/// A catalog: valid versions by rising date, at most 64. An added version shares the earlier ones.
+/// A catalog: valid versions by rising date, at most `MAX_VERSIONS`. An added version shares the earlier ones.
 #[derive(Debug, Drop)]
 pub struct Catalog {
     versions: Vec<Arc<Valid>>,
@@ -39,14 +40,24 @@ impl Model for Catalog {
 #[derive(Clone, Copy, Debug, PartialEq, Eq, Error)]
 pub enum AddFault {
     /// The version's date isn't after that of the last version.
-    #[error("not after the last version")]
+    #[error("the version isn't after the last one: give it a later date")]
     VersionOrder,
-    /// The catalog has 64 versions.
-    #[error("too many versions")]
+    /// The catalog has as many versions as it may have.
+    #[error("the catalog has {} versions and takes no more", MAX_VERSIONS)]
     Limit,
     /// Memory ran out.
     #[error("out of memory")]
     NoMemory,
+}
+
+impl From<NoMemory> for AddFault {
+    ghost use Rattle.kb_catalog.specs.declared.catalog.AddFault.TheVariants.{NoMemory};
+
+    ghost from_gives = { λ _ fault. fault ≡ NoMemory };
+
+    fn from(_: NoMemory) -> AddFault {
+        AddFault::NoMemory
+    }
 }
 
 impl From<AllocError> for AddFault {
@@ -82,7 +93,7 @@ impl Catalog {
     /// How many versions there are.
     pub fn len(&self) -> u32
         ensures value { result ≡ length self.now }
-        ensures limit { result ≤ 64 }
+        ensures limit { result ≤ max_versions }
     {
         self.versions.len() as u32
     }
@@ -95,8 +106,8 @@ impl Catalog {
         &self.versions[place as usize]
     }
 
-    #[tactic(auto, using(crate::proofs::Latest::latest_version))]
     /// The place of the version that is used on a day: of the last one whose date is on or before it.
+    #[tactic(auto, using(crate::proofs::Latest::latest_version))]
     pub fn version_at(&self, day: Day) -> Option<u32>
         ensures place { result ≡ version_at self.now day }
         ensures latest { MatchOption result (NoneBegun self.now day) (IsLatest self.now day) }
@@ -109,7 +120,8 @@ impl Catalog {
     pub fn add(&self, alloc: Global, version: Valid) -> Result<Catalog, AddFault>
         ensures added { IfOk result (λ catalog. catalog ≡ self.now ++ version ∷ []) }
         ensures order { (result ≡ Err AddFault.VersionOrder) ↔ IsEarly self.now version }
-        ensures limit { (result ≡ Err AddFault.Limit) ↔ (IsLater self.now version × (length self.now ≡ 64)) }
+        ensures limit { (result ≡ Err AddFault.Limit)
+            ↔ (IsLater self.now version × (length self.now ≡ max_versions)) }
     {
         if self.is_early(&version) {
             return Err(AddFault::VersionOrder);
@@ -146,7 +158,7 @@ impl Catalog {
 /// The place of the last version whose date is on or before a day.
 #[tactic(auto, using(crate::proofs::Latest::walks))]
 fn latest(versions: &[Arc<Valid>], day: Day) -> Option<u32>
-    requires { length versions.now ≤ 64 }
+    requires { length versions.now ≤ max_versions }
     ensures { result ≡ version_at (map arc_value versions.now) day }
 {
     let mut found = None;
@@ -171,25 +183,11 @@ fn with_version(
     versions: &[Arc<Valid>],
     version: Valid,
 ) -> Result<Vec<Arc<Valid>>, AddFault>
-    ensures added { IfOk result (λ longer. map arc_value longer.items ≡ map arc_value versions.now ++ version ∷ []) }
+    ensures added { IfOk result (λ longer. map arc_value longer.items
+        ≡ map arc_value versions.now ++ version ∷ []) }
     ensures memory { IfErr result (λ fault. fault ≡ AddFault.NoMemory) }
 {
     let mut longer = shared(alloc, versions)?;
     longer.push(Arc::new(alloc, version)?)?;
     Ok(longer)
 }
-
-/// The same versions, shared.
-fn shared(alloc: Global, versions: &[Arc<Valid>]) -> Result<Vec<Arc<Valid>>, AddFault>
-    ensures same { IfOk result (λ copy. map arc_value copy.items ≡ map arc_value versions.now) }
-    ensures memory { IfErr result (λ fault. fault ≡ AddFault.NoMemory) }
-{
-    let mut copy = Vec::new(alloc);
-    for version in versions {
-        copy.push(Arc::try_clone(version)?)?;
-    }
-    Ok(copy)
-}
-
-#[cfg(test)]
-mod tests;

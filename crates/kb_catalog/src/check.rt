@@ -6,8 +6,6 @@ mod cases;
 mod lists;
 mod plans;
 mod products;
-#[cfg(test)]
-mod tests;
 
 use crate::{CatalogFault, Rule, Version};
 pub(crate) use products::has_name;

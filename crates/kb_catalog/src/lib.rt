@@ -12,10 +12,7 @@ mod check;
 mod lookup;
 mod parts;
 mod rule;
-#[cfg(test)]
-mod samples;
-#[cfg(test)]
-mod shop;
+mod threads;
 mod valid;
 mod version;
 mod words;

@@ -2,8 +2,10 @@
 ghost use Rattle.std.specs.Prelude.{◌≡◌, ◌<◌, ◌^◌, bytes_eq, length, Some, IfSome, option_map};
 ghost use Rattle.kb_catalog.specs.declared.version.PriceList.{PriceList};
 ghost use Rattle.kb_catalog.specs.Plans.{plan_period};
-ghost use Rattle.kb_catalog.specs.LookUp.{plan_at, place_from, names_sold, is_asked, first_match, fits_change_policy, fits_change_alignment, fits_cancel, fits_create, fits_billing};
+ghost use Rattle.std.specs.List.{position_from};
+ghost use Rattle.kb_catalog.specs.LookUp.{plan_at, names_sold, is_asked, first_match, fits_change_policy, fits_change_alignment, fits_cancel, fits_create, fits_billing};
 ghost use Rattle.kb_catalog.specs.Cases.{EndOpen};
+ghost use Rattle.kb_catalog.specs.ValidVersions.{IsOnlyPlan};
 
 use crate::case::{decide, same_period};
 use crate::check::has_name;
@@ -16,7 +18,8 @@ impl Valid {
     /// The places of the named list and of the plan that it sells for a product and a billing period, from 0,
     /// in the version's lists and plans; none exactly where it sells none. No other list is looked in.
     pub fn find_plan(&self, product: Name, period: Period, list: Name) -> Option<(u32, u32)>
-        ensures { result ≡ plan_at self.now product period list }
+        ensures value { result ≡ plan_at self.now product period list }
+        ensures only { IfSome result (λ found. IsOnlyPlan self.now product period list found.1) }
     {
         let version = self.version();
         let (list_place, names) = find_list(version.lists.as_slice(), list)?;
@@ -101,7 +104,8 @@ impl Plan {
 /// The place of the list of a name, and the names that it sells.
 fn find_list(lists: &[PriceList], name: Name) -> Option<(u32, &[Name])>
     requires counted { length lists.now < 2 ^ 32 }
-    ensures place { option_map (λ found. found.0) result ≡ place_from 0 (λ (list : PriceList). bytes_eq name list.name) lists.now }
+    ensures place { option_map (λ found. found.0) result
+        ≡ position_from (λ (list : PriceList). bytes_eq name list.name) 0 lists.now }
     ensures sold { IfSome result (λ found. found.1.now ≡ names_sold lists.now name) }
 {
     for (place, list) in lists.iter().enumerate() {
@@ -115,7 +119,7 @@ fn find_list(lists: &[PriceList], name: Name) -> Option<(u32, &[Name])>
 /// The place of the plan with a product and a billing period, among those of these names.
 fn find_sold(plans: &[Plan], product: Name, period: Period, names: &[Name]) -> Option<u32>
     requires counted { length plans.now < 2 ^ 32 }
-    ensures { result ≡ place_from 0 (is_asked product period names.now) plans.now }
+    ensures { result ≡ position_from (is_asked product period names.now) 0 plans.now }
 {
     for (place, plan) in plans.iter().enumerate() {
         if plan.is_asked(product, period, names) {
@@ -124,6 +128,3 @@ fn find_sold(plans: &[Plan], product: Name, period: Period, names: &[Name]) -> O
     }
     None
 }
-
-#[cfg(test)]
-mod tests;

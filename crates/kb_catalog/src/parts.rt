@@ -66,6 +66,3 @@ fn price_in(prices: &[Price], currency: Currency) -> Option<Minor>
     }
     None
 }
-
-#[cfg(test)]
-mod tests;

@@ -3,6 +3,7 @@ ghost use Rattle.std.specs.Prelude.{◌≡◌, ◌<◌, ◌^◌, ◌↔◌, IsTr
 ghost use Rattle.kb_catalog.specs.declared.version.Plan.{Plan};
 ghost use Rattle.kb_catalog.specs.declared.rule.CatalogFault.{CatalogFault};
 ghost use Rattle.kb_catalog.specs.VersionRules.{fault_of, IsValid, HasCounts};
+ghost use Rattle.kb_catalog.specs.ValidVersions.{HasDistinctNames, EndsUnlimited};
 
 use crate::check::fault_of;
 use crate::{CatalogFault, Plan, Version};
@@ -58,6 +59,8 @@ impl Valid {
         ensures same { result.now ≡ self.now }
         ensures valid { IsValid result.now }
         ensures counted { HasCounts result.now }
+        ensures names { HasDistinctNames result.now }
+        ensures phases { All (λ (plan : Plan). EndsUnlimited plan.phases) result.now.plans }
     {
         &self.version
     }

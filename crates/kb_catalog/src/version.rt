@@ -44,7 +44,7 @@ pub struct Phase {
 }
 
 /// A price in a currency.
-#[derive(Clone, Copy, Debug, PartialEq, Eq)]
+#[derive(Clone, Copy, Debug)]
 pub struct Price {
     pub currency: Currency,
     pub amount: Minor,
@@ -68,7 +68,7 @@ pub struct Rules {
 }
 
 /// What a case asks of a plan; what isn't stated isn't asked.
-#[derive(Clone, Copy, Debug, PartialEq, Eq)]
+#[derive(Clone, Copy, Debug)]
 pub struct PlanCondition {
     pub product: Option<Name>,
     pub category: Option<Category>,
@@ -77,7 +77,7 @@ pub struct PlanCondition {
 }
 
 /// When a change from one plan to another takes effect.
-#[derive(Clone, Copy, Debug, PartialEq, Eq)]
+#[derive(Clone, Copy, Debug)]
 pub struct ChangePolicyCase {
     pub from: PlanCondition,
     pub phase: Option<PhaseType>,
@@ -86,7 +86,7 @@ pub struct ChangePolicyCase {
 }
 
 /// From which day the phases are counted after a change from one plan to another.
-#[derive(Clone, Copy, Debug, PartialEq, Eq)]
+#[derive(Clone, Copy, Debug)]
 pub struct ChangeAlignmentCase {
     pub from: PlanCondition,
     pub phase: Option<PhaseType>,
@@ -95,7 +95,7 @@ pub struct ChangeAlignmentCase {
 }
 
 /// When the cancellation of a plan takes effect.
-#[derive(Clone, Copy, Debug, PartialEq, Eq)]
+#[derive(Clone, Copy, Debug)]
 pub struct CancelCase {
     pub plan: PlanCondition,
     pub phase: Option<PhaseType>,
@@ -103,14 +103,14 @@ pub struct CancelCase {
 }
 
 /// From which day the phases of a plan are counted.
-#[derive(Clone, Copy, Debug, PartialEq, Eq)]
+#[derive(Clone, Copy, Debug)]
 pub struct CreateCase {
     pub plan: PlanCondition,
     pub alignment: CreateAlign,
 }
 
 /// Whose cycle day a plan is billed by.
-#[derive(Clone, Copy, Debug, PartialEq, Eq)]
+#[derive(Clone, Copy, Debug)]
 pub struct BillingCase {
     pub plan: PlanCondition,
     pub phase: Option<PhaseType>,

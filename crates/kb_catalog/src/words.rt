@@ -3,7 +3,7 @@ ghost use Rattle.std.specs.Prelude.{◌≡◌};
 ghost use Rattle.kb_catalog.specs.Alignments.{align_of};
 
 /// What kind of product one is.
-#[derive(Clone, Copy, Debug, PartialEq, Eq, Hash, PartialOrd, Ord)]
+#[derive(Clone, Copy, Debug, PartialEq, Eq)]
 pub enum Category {
     /// It may lead a bundle and have add-ons.
     Base,
@@ -14,7 +14,7 @@ pub enum Category {
 }
 
 /// What kind of phase one is.
-#[derive(Clone, Copy, Debug, PartialEq, Eq, Hash, PartialOrd, Ord)]
+#[derive(Clone, Copy, Debug, PartialEq, Eq)]
 pub enum PhaseType {
     Trial,
     Discount,
@@ -23,7 +23,7 @@ pub enum PhaseType {
 }
 
 /// When a change or a cancellation takes effect.
-#[derive(Clone, Copy, Debug, PartialEq, Eq, Hash, PartialOrd, Ord)]
+#[derive(Clone, Copy, Debug, PartialEq, Eq)]
 pub enum Policy {
     /// On the day asked for.
     Immediate,
@@ -34,7 +34,7 @@ pub enum Policy {
 }
 
 /// From which day the phases of a start are counted.
-#[derive(Clone, Copy, Debug, PartialEq, Eq, Hash, PartialOrd, Ord)]
+#[derive(Clone, Copy, Debug, PartialEq, Eq)]
 pub enum CreateAlign {
     /// From the start of the bundle's lead.
     StartOfBundle,
@@ -43,7 +43,7 @@ pub enum CreateAlign {
 }
 
 /// From which day the phases of a start or a change are counted.
-#[derive(Clone, Copy, Debug, PartialEq, Eq, Hash, PartialOrd, Ord)]
+#[derive(Clone, Copy, Debug, PartialEq, Eq)]
 pub enum Align {
     /// From the start of the bundle's lead.
     StartOfBundle,
@@ -65,7 +65,7 @@ impl From<CreateAlign> for Align {
 }
 
 /// Whose cycle day a subscription is billed by.
-#[derive(Clone, Copy, Debug, PartialEq, Eq, Hash, PartialOrd, Ord)]
+#[derive(Clone, Copy, Debug, PartialEq, Eq)]
 pub enum BillingAlign {
     /// The account's.
     Account,
