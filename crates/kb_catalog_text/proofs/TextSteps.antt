@@ -8,7 +8,7 @@ use Rattle.toml.specs.Parse.{parse_document}
 use Rattle.kb_catalog_text.specs.declared.fault.TextFault.{TextFault}
 use Rattle.kb_catalog_text.specs.declared.fault.TextFault.TheVariants.{NotToml, Missing, WrongKind, Unknown, Rule, Memory, TooLong}
 use Rattle.kb_catalog_text.specs.Reads.{Read}
-use Rattle.kb_catalog_text.specs.Texts.{most_bytes, document_of, judged, text_read, IsFaultOf, IsNoDocument}
+use Rattle.kb_catalog_text.specs.Texts.{max_bytes, document_of, judged, text_read, IsFaultOf, IsNoDocument}
 
 -- a text that is TOML has that document
 pub document_of-some : (bytes : List ℕ) (members : Members) → IsUtf8 bytes → parse_document bytes ≡ Some members → document_of bytes ≡ Some members
@@ -28,20 +28,20 @@ pub ruleset documents = (document_of-some, document_of-none)
 
 -- a text of a document is judged by what that says
 pub text_read-document : {A : Type 0} (rules : A → Result A TextFault) (read : Members → Read A) (bytes : List ℕ) (members : Members)
-    → length bytes ≤ most_bytes → document_of bytes ≡ Some members → text_read rules read bytes ≡ judged rules (read members)
+    → length bytes ≤ max_bytes → document_of bytes ≡ Some members → text_read rules read bytes ≡ judged rules (read members)
 unfolding text_read
 text_read-document rules read bytes members short document =
-    let short_test : nat_lt most_bytes (length bytes) ≡ false = grind (arith, nat_tests) in rw (short_test, document) refl
+    let short_test : nat_lt max_bytes (length bytes) ≡ false = grind (arith, nat_tests) in rw (short_test, document) refl
 
 -- a text without a document has that fault
 pub text_read-fault : {A : Type 0} (rules : A → Result A TextFault) (read : Members → Read A) (bytes : List ℕ) (fault : TextFault)
     → IsNoDocument bytes fault → IsFaultOf (text_read rules read bytes) fault
 unfolding text_read
 text_read-fault rules read bytes NotToml none =
-    λ kept. let short_test : nat_lt most_bytes (length bytes) ≡ false = let short = none.0 in grind (arith, nat_tests) in rw (short_test, none.1) refl
+    λ kept. let short_test : nat_lt max_bytes (length bytes) ≡ false = let short = none.0 in grind (arith, nat_tests) in rw (short_test, none.1) refl
 text_read-fault rules read bytes Memory none = λ kept. absurd (kept refl)
 text_read-fault rules read bytes (TooLong count) none =
-    λ kept. let long_test : nat_lt most_bytes (length bytes) ≡ true = let long = none.0 in grind (arith, nat_tests) in rw (long_test, none.1) refl
+    λ kept. let long_test : nat_lt max_bytes (length bytes) ≡ true = let long = none.0 in grind (arith, nat_tests) in rw (long_test, none.1) refl
 text_read-fault rules read bytes (Missing key) none = absurd none
 text_read-fault rules read bytes (WrongKind key) none = absurd none
 text_read-fault rules read bytes (Unknown key) none = absurd none

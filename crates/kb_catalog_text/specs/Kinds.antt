@@ -4,6 +4,7 @@ use Rattle.toml.specs.Data.{Data, string, integer, as_str, as_integer}
 use Rattle.kb_days.specs.Names.{is_name}
 use Rattle.kb_days.specs.DateText.{read_day}
 use Rattle.kb_money.specs.Currency.{is_currency}
+use Rattle.kb_overdue.specs.Thresholds.{max_threshold}
 use Rattle.kb_catalog_text.specs.declared.format.Format.{Format}
 use Rattle.kb_catalog_text.specs.declared.format.Format.TheVariants.{One}
 use Rattle.kb_catalog_text.specs.Words.{look_up}
@@ -47,7 +48,7 @@ amount_in value = number_in 0 1000000000 value
 
 -- the number that an overdue state's condition wants at least
 unfoldable pub threshold_in : Data → Option ℕ
-threshold_in value = number_in 1 1000000000000 value
+threshold_in value = number_in 1 max_threshold value
 
 -- the format of the text
 abbrev pub format_of : ℕ → Option Format

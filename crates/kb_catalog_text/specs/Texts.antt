@@ -19,8 +19,8 @@ use Rattle.kb_catalog_text.specs.CatalogText.{version_in}
 use Rattle.kb_catalog_text.specs.OverdueText.{states_in}
 
 -- the most bytes that a text has
-abbrev pub most_bytes : ℕ
-most_bytes = 60000
+abbrev pub max_bytes : ℕ
+max_bytes = 60000
 
 -- the document that a text is, if it is TOML
 unfoldable pub document_of : List ℕ → Option Members
@@ -51,7 +51,7 @@ judged rules (Err fault) = Err (fault_at fault)
 -- what a text is read as: it isn't too long, then it is TOML, then its keys are read, and then its rules are tried
 unfoldable pub text_read : {A : Type 0} → (A → Result A TextFault) → (Members → Read A) → List ℕ → Result A TextFault
 text_read {A} rules read bytes =
-    if nat_lt most_bytes (length bytes) then Err (text.TooLong (length bytes)) else of_document (document_of bytes)
+    if nat_lt max_bytes (length bytes) then Err (text.TooLong (length bytes)) else of_document (document_of bytes)
   where
     of_document : Option Members → Result A TextFault
     of_document None = Err text.NotToml
@@ -97,9 +97,9 @@ IsFaultOf read fault = (fault ≡ text.Memory → ⊥) → read ≡ Err fault
 
 -- why a text has no document: it is too long, or it isn't TOML, or memory ran out while it was read
 abbrev pub IsNoDocument : List ℕ → TextFault → Type 0
-IsNoDocument bytes text.NotToml = (length bytes ≤ most_bytes) × (document_of bytes ≡ None)
-IsNoDocument bytes text.Memory = length bytes ≤ most_bytes
-IsNoDocument bytes (text.TooLong count) = (most_bytes < length bytes) × (count ≡ length bytes)
+IsNoDocument bytes text.NotToml = (length bytes ≤ max_bytes) × (document_of bytes ≡ None)
+IsNoDocument bytes text.Memory = length bytes ≤ max_bytes
+IsNoDocument bytes (text.TooLong count) = (max_bytes < length bytes) × (count ≡ length bytes)
 IsNoDocument bytes (text.Missing key) = ⊥
 IsNoDocument bytes (text.WrongKind key) = ⊥
 IsNoDocument bytes (text.Unknown key) = ⊥

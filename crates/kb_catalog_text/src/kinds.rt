@@ -10,7 +10,7 @@ use crate::from_value::FromValue;
 use crate::key_fault::KeyFault;
 use kb_days::{Count, Day, Name, parse};
 use kb_money::{Currency, Minor};
-use kb_overdue::Threshold;
+use kb_overdue::{MAX_THRESHOLD, Threshold};
 use std::alloc::Global;
 use toml::Value;
 
@@ -140,7 +140,7 @@ impl FromValue for Threshold {
 fn threshold_in(value: &Value) -> Option<Threshold>
     ensures { result ≡ threshold_in (view value.now) }
 {
-    match number_in(value, 1, 1_000_000_000_000) {
+    match number_in(value, 1, MAX_THRESHOLD) {
         None => None,
         Some(number) => Threshold::new(number),
     }

@@ -3,7 +3,7 @@ ghost use Rattle.std.specs.Prelude.{ℕ, ◌≡◌, ◌<◌, ◌≤◌, ◌↔�
 ghost use Rattle.toml.specs.View.{table_view};
 ghost use Rattle.kb_catalog_text.specs.CatalogText.{version_in};
 ghost use Rattle.kb_catalog_text.specs.OverdueText.{states_in};
-ghost use Rattle.kb_catalog_text.specs.Texts.{most_bytes, document_of, catalog_read, overdue_read, version_judged, states_judged, judged, IsFaultOf, IsNoDocument};
+ghost use Rattle.kb_catalog_text.specs.Texts.{max_bytes, document_of, catalog_read, overdue_read, version_judged, states_judged, judged, IsFaultOf, IsNoDocument};
 
 use crate::TextFault;
 use crate::catalog::read_version;
@@ -54,7 +54,7 @@ impl Model for CheckedOverdue {
     ghost invariant = { λ checked. overdue_read checked.text ≡ Ok checked.config };
 }
 
-/// Reads a catalog text of at most 60,000 bytes: gives it back unchanged, with the valid version that it says, or the
+/// Reads a catalog text of at most `MAX_BYTES`: gives it back unchanged, with the valid version that it says, or the
 /// first fault. Keys are read in the order of the format, and what a key holds in full before the next one; the rules
 /// of a version are tried last. `Memory` may come at any point of a text that isn't too long.
 #[tactic(auto, using(crate::proofs::FaultCauses::causes))]
@@ -62,8 +62,8 @@ pub fn read(alloc: Global, text: Vec<u8>) -> Result<Checked, TextFault>
     ensures text { IfOk result (λ checked. checked.text ≡ text.items) }
     ensures version { IfOk result (λ checked. catalog_read text.items ≡ Ok checked.version) }
     ensures fault { IfErr result (IsFaultOf (catalog_read text.items)) }
-    ensures too_long { (count : ℕ) → (result ≡ Err (TextFault.TooLong count)) ↔ ((most_bytes < length text.items) × (count ≡ length text.items)) }
-    ensures not_toml { result ≡ Err TextFault.NotToml → (length text.items ≤ most_bytes) × (document_of text.items ≡ None) }
+    ensures too_long { (count : ℕ) → (result ≡ Err (TextFault.TooLong count)) ↔ ((max_bytes < length text.items) × (count ≡ length text.items)) }
+    ensures not_toml { result ≡ Err TextFault.NotToml → (length text.items ≤ max_bytes) × (document_of text.items ≡ None) }
 {
     match version_of(alloc, &text) {
         Ok(version) => Ok(Checked {
@@ -74,15 +74,15 @@ pub fn read(alloc: Global, text: Vec<u8>) -> Result<Checked, TextFault>
     }
 }
 
-/// Reads an overdue text of at most 60,000 bytes: gives it back unchanged, with the overdue states that it says, or the
+/// Reads an overdue text of at most `MAX_BYTES`: gives it back unchanged, with the overdue states that it says, or the
 /// first fault, in the same order. `Memory` may come at any point of a text that isn't too long.
 #[tactic(auto, using(crate::proofs::FaultCauses::causes))]
 pub fn read_overdue(alloc: Global, text: Vec<u8>) -> Result<CheckedOverdue, TextFault>
     ensures text { IfOk result (λ checked. checked.text ≡ text.items) }
     ensures states { IfOk result (λ checked. overdue_read text.items ≡ Ok checked.states) }
     ensures fault { IfErr result (IsFaultOf (overdue_read text.items)) }
-    ensures too_long { (count : ℕ) → (result ≡ Err (TextFault.TooLong count)) ↔ ((most_bytes < length text.items) × (count ≡ length text.items)) }
-    ensures not_toml { result ≡ Err TextFault.NotToml → (length text.items ≤ most_bytes) × (document_of text.items ≡ None) }
+    ensures too_long { (count : ℕ) → (result ≡ Err (TextFault.TooLong count)) ↔ ((max_bytes < length text.items) × (count ≡ length text.items)) }
+    ensures not_toml { result ≡ Err TextFault.NotToml → (length text.items ≤ max_bytes) × (document_of text.items ≡ None) }
 {
     match config_of(alloc, &text) {
         Ok(config) => Ok(CheckedOverdue {
@@ -148,7 +148,7 @@ impl CheckedOverdue {
 fn version_of(alloc: Global, text: &[u8]) -> Result<Valid, TextFault>
     ensures version { IfOk result (λ version. catalog_read text.now ≡ Ok version) }
     ensures fault { IfErr result (IsFaultOf (catalog_read text.now)) }
-    ensures long { most_bytes < length text.now → result ≡ Err (TextFault.TooLong (length text.now)) }
+    ensures long { max_bytes < length text.now → result ≡ Err (TextFault.TooLong (length text.now)) }
 {
     match document(alloc, text) {
         Ok(table) => judged_version(alloc, &table),
@@ -176,7 +176,7 @@ fn judged_version(alloc: Global, table: &Table) -> Result<Valid, TextFault>
 fn config_of(alloc: Global, text: &[u8]) -> Result<Config, TextFault>
     ensures states { IfOk result (λ states. overdue_read text.now ≡ Ok states) }
     ensures fault { IfErr result (IsFaultOf (overdue_read text.now)) }
-    ensures long { most_bytes < length text.now → result ≡ Err (TextFault.TooLong (length text.now)) }
+    ensures long { max_bytes < length text.now → result ≡ Err (TextFault.TooLong (length text.now)) }
 {
     match document(alloc, text) {
         Ok(table) => judged_states(alloc, &table),
@@ -199,10 +199,10 @@ fn judged_states(alloc: Global, table: &Table) -> Result<Config, TextFault>
 /// The document that a text is.
 #[tactic(auto, using(crate::proofs::TextSteps::documents))]
 fn document(alloc: Global, text: &[u8]) -> Result<Table, TextFault>
-    ensures short { IfOk result (λ _. length text.now ≤ most_bytes) }
+    ensures short { IfOk result (λ _. length text.now ≤ max_bytes) }
     ensures document { IfOk result (λ table. document_of text.now ≡ Some (table_view table)) }
     ensures fault { IfErr result (IsNoDocument text.now) }
-    ensures long { most_bytes < length text.now → result ≡ Err (TextFault.TooLong (length text.now)) }
+    ensures long { max_bytes < length text.now → result ≡ Err (TextFault.TooLong (length text.now)) }
 {
     if text.len() > MAX_BYTES {
         return Err(TextFault::TooLong(text.len() as u64));
@@ -217,6 +217,3 @@ fn document(alloc: Global, text: &[u8]) -> Result<Table, TextFault>
         }
     }
 }
-
-#[cfg(test)]
-mod tests;
