@@ -1,13 +1,16 @@
 -- The test of a day finds the boundaries of billing periods, and so the search finds the period of a day.
-use Rattle.std.proofs.Common.{◌≡◌, ℕ, ◌+◌, ◌-◌, ◌*◌, ◌/◌, ◌%◌, ◌≤◌, true, false, nat_eq, nat_le, Option, Some, None, inl, inr, refl, sym, ap, ◌∙◌, arith}
+use Rattle.std.proofs.Common.{◌≡◌, ℕ, ◌+◌, ◌-◌, ◌*◌, ◌/◌, ◌%◌, ◌≤◌, true, false, nat_eq, nat_le, Option, Some}
+use Rattle.std.proofs.Common.{None, inl, inr, refl, sym, ap, ◌∙◌, arith}
 use Rattle.std.proofs.Math.Nat.{mod-add-div', mul-mod_left}
-use Rattle.std.proofs.lemmas.Bool.{cases_lt, lt-ltb, le-ltb, le-leb, leb-true, eq-eqb, eqb-true, and_from, and_parts, false_from_ne_true, false≢true}
+use Rattle.std.proofs.lemmas.Bool.{cases_lt, lt-ltb, le-ltb, le-leb, leb-true, eq-eqb, eqb-true, and_from}
+use Rattle.std.proofs.lemmas.Bool.{and_parts, false_from_ne_true, false≢true}
 use Rattle.kb_days.specs.Calendar.{mark, month_of}
 use Rattle.kb_days.specs.Periods.{period_days, period_months}
 use Rattle.kb_days.specs.declared.period.Period.{Period}
 use Rattle.kb_days.proofs.Months.{month_of-mark}
 use Rattle.kb_align.specs.Boundaries.{IsFirstMonth, IsDayBoundary, IsMonthBoundary, IsBoundary, IsPeriodOf}
-use Rattle.kb_align.specs.PeriodDays.{max_period_days, first_month, is_day_boundary, is_month_boundary, is_boundary, last_day_on, next_day_after, period_on}
+use Rattle.kb_align.specs.PeriodDays.{max_period_days, first_month, is_day_boundary, is_month_boundary}
+use Rattle.kb_align.specs.PeriodDays.{is_boundary, last_day_on, next_day_after, period_on}
 use Rattle.kb_align.proofs.FirstMonths.{IsFirstMonth-here, IsFirstMonth-next, IsFirstMonth-only}
 use Rattle.kb_align.proofs.Lengths.{days_or_months}
 use Rattle.kb_align.proofs.Searches.{last_day_on-is, next_day_after-is}
@@ -54,14 +57,16 @@ is_month_boundary-true count start bcd day (first, month, is, aligned, marked) =
     and_from (nat_eq (mark (month_of day) bcd) day)
     (nat_eq (month_of day % count) (first_month start bcd % count))
     (eq-eqb (mark (month_of day) bcd) day (ap (λ m. mark m bcd) here ∙ sym marked))
-    (eq-eqb (month_of day % count) (first_month start bcd % count) (ap (λ m. m % count) here ∙ aligned ∙ ap (λ m. m % count) found))
+    (eq-eqb (month_of day % count) (first_month start bcd % count)
+    (ap (λ m. m % count) here ∙ aligned ∙ ap (λ m. m % count) found))
 
 -- and no other day does
 IsMonthBoundary-true : (count start bcd day : ℕ) → is_month_boundary count start bcd day ≡ true
     → IsMonthBoundary count start bcd day
 IsMonthBoundary-true count start bcd day passed =
     let parts =
-    and_parts (nat_eq (mark (month_of day) bcd) day) (nat_eq (month_of day % count) (first_month start bcd % count)) passed in (
+    and_parts (nat_eq (mark (month_of day) bcd) day)
+    (nat_eq (month_of day % count) (first_month start bcd % count)) passed in (
       first_month start bcd,
       month_of day,
       IsFirstMonth-first_month start bcd,
@@ -114,11 +119,19 @@ IsBoundary-true start period bcd day passed = by_length (period_days period) (pe
     by_length : (days months : Option ℕ) → period_days period ≡ days → period_months period ≡ months
         → IsBoundary start period bcd day
     by_length (Some count) months is other =
-        inl
-        (count, is, IsDayBoundary-true count start day (sym (is_boundary-days start period bcd day count is) ∙ passed))
+        inl (
+          count,
+          is,
+          IsDayBoundary-true count start day
+              (sym (is_boundary-days start period bcd day count is) ∙ passed),
+        )
     by_length None (Some count) not_days is =
-        inr
-        (count, is, IsMonthBoundary-true count start bcd day (sym (is_boundary-months start period bcd day count not_days is) ∙ passed))
+        inr (
+          count,
+          is,
+          IsMonthBoundary-true count start bcd day
+              (sym (is_boundary-months start period bcd day count not_days is) ∙ passed),
+        )
     by_length None None not_days not_months =
         absurd (false≢true (sym (is_boundary-none start period bcd day not_days not_months) ∙ passed))
 

@@ -2,7 +2,8 @@
 use Rattle.std.proofs.Common.{◌≡◌, ℕ, ◌+◌, ◌<◌, ◌≤◌, inl, inr, arith}
 use Rattle.std.proofs.lemmas.Bool.{cases_lt}
 use Rattle.kb_days.specs.Calendar.{mark, month_of}
-use Rattle.kb_days.proofs.Marks.{month_of-first_day, month_of-last_charged, mark-order, mark-before, mark-after}
+use Rattle.kb_days.proofs.Marks.{month_of-first_day, month_of-last_charged, mark-order, mark-before}
+use Rattle.kb_days.proofs.Marks.{mark-after}
 use Rattle.kb_align.specs.Boundaries.{IsFirstMonth}
 
 -- a day's month is the first, if its cycle day lies on or after the day
@@ -65,5 +66,11 @@ IsFirstMonth-before start bcd first month is h =
           mark-order first month bcd after in let late = is.reached in absurd (omega (arith, order, late))
     ]
 
-pub ruleset first_months =
-    (month_of-first_day, month_of-last_charged, IsFirstMonth-here, IsFirstMonth-next, IsFirstMonth-later, IsFirstMonth-soon)
+pub ruleset first_months = (
+  month_of-first_day,
+  month_of-last_charged,
+  IsFirstMonth-here,
+  IsFirstMonth-next,
+  IsFirstMonth-later,
+  IsFirstMonth-soon,
+)

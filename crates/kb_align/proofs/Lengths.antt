@@ -3,7 +3,9 @@ use Rattle.std.proofs.Common.{◌≡◌, ℕ, ◌<◌, ◌≤◌, Some, None, Is
 use Rattle.std.proofs.lemmas.Option.{none-some}
 use Rattle.kb_days.specs.Periods.{period_days, period_months}
 use Rattle.kb_days.specs.declared.period.Period.{Period}
-use Rattle.kb_days.specs.declared.period.Period.TheVariants.{Daily, Weekly, Biweekly, ThirtyDays, Monthly, Quarterly, Biannual, Annual, Biennial, NoBillingPeriod}
+use Rattle.kb_days.specs.declared.period.Period.TheVariants.{Daily, Weekly, Biweekly, ThirtyDays, Monthly}
+use Rattle.kb_days.specs.declared.period.Period.TheVariants.{Quarterly, Biannual, Annual, Biennial}
+use Rattle.kb_days.specs.declared.period.Period.TheVariants.{NoBillingPeriod}
 
 -- a number is some one, if the option holds it
 some_low : (low a n : ℕ) → Some a ≡ Some n → low ≤ a → low ≤ n

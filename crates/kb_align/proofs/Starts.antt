@@ -1,5 +1,6 @@
 -- A walk over the spans of phases comes by their starts, and by the last one that has begun.
-use Rattle.std.proofs.Common.{◌≡◌, ℕ, suc, ◌+◌, ◌<◌, ◌≤◌, List, [], ◌∷◌, length, drop, get_or, Option, Some, option_and_then, refl, sym, ap, ◌∙◌, arith}
+use Rattle.std.proofs.Common.{◌≡◌, ℕ, suc, ◌+◌, ◌<◌, ◌≤◌, List, [], ◌∷◌, length, drop, get_or, Option, Some}
+use Rattle.std.proofs.Common.{option_and_then, refl, sym, ap, ◌∙◌, arith}
 use Rattle.std.specs.List.{filter_map, enumerate_from, last_or, cons_option}
 use Rattle.std.proofs.Math.Seq.{drop-cons}
 use Rattle.std.proofs.lemmas.Bool.{le-leb}
@@ -38,10 +39,12 @@ last_begun-first anchor [] day some begun = absurd (omega arith)
 last_begun-first anchor (span ∷ later) day some begun = rw (le-leb anchor day begun) refl
 
 -- a phase is found from then on, if it has begun
-pub last_begun-next : (day : ℕ) (found : Option PhaseAt) (place : ℕ) (start : Option ℕ) (spans : List Span) (span : Span) (here : Option PhaseAt)
+pub last_begun-next : (day : ℕ) (found : Option PhaseAt) (place : ℕ) (start : Option ℕ) (spans : List Span)
+    (span : Span) (here : Option PhaseAt)
     → place < length spans → span ≡ get_or spans place span → here ≡ begun_by day (place, start)
     → last_begun day found place start (drop place spans)
-    ≡ last_or found (cons_option here (filter_map (begun_by day) (enumerate_from (place + 1) (starts_from (option_and_then (over span) start) (drop (place + 1) spans)))))
+    ≡ last_or found (cons_option here (filter_map (begun_by day)
+    (enumerate_from (place + 1) (starts_from (option_and_then (over span) start) (drop (place + 1) spans)))))
 last_begun-next day found place start spans span here h at is =
     let later =
     filter_map (begun_by day)

@@ -1,5 +1,6 @@
 -- The period of a day as a search finds it, day by day.
-use Rattle.std.specs.Prelude.{ℕ, zero, suc, ◌+◌, ◌-◌, ◌%◌, ◌≡◌, Bool, false, ◌&&◌, nat_eq, nat_le, nat_lt, if◌then◌else◌, Option, Some, None, refl}
+use Rattle.std.specs.Prelude.{ℕ, zero, suc, ◌+◌, ◌-◌, ◌%◌, ◌≡◌, Bool, false, ◌&&◌, nat_eq, nat_le, nat_lt}
+use Rattle.std.specs.Prelude.{if◌then◌else◌, Option, Some, None, refl}
 use Rattle.kb_days.specs.Calendar.{mark, month_of, month_after, month_start, month_length}
 use Rattle.kb_days.specs.Dates.{january, february, march, april}
 use Rattle.kb_days.specs.Periods.{period_days, period_months}

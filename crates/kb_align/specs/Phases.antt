@@ -1,6 +1,7 @@
 -- When the phases of a plan start: the first one on its anchor, each next one where the one before has lasted
 -- its span.
-use Rattle.std.specs.Prelude.{ℕ, ◌≡◌, nat_le, List, [], ◌∷◌, Option, Some, None, option_and_then, if◌then◌else◌, refl}
+use Rattle.std.specs.Prelude.{ℕ, ◌≡◌, nat_le, List, [], ◌∷◌, Option, Some, None, option_and_then}
+use Rattle.std.specs.Prelude.{if◌then◌else◌, refl}
 use Rattle.std.specs.List.{filter_map, enumerate_from, last_or}
 use Rattle.kb_days.specs.Calendar.{month_of, day_of_month, month_after, month_start, month_length}
 use Rattle.kb_days.specs.Dates.{january, february, march, april, april_2025}

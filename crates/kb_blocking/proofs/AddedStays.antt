@@ -1,15 +1,19 @@
 -- The stays of states, where one more state is accepted.
-use Rattle.std.proofs.Common.{◌≡◌, ℕ, ◌≤◌, Bool, true, false, not, cond, ◌&&◌, ◌||◌, nat_le, nat_lt, List, [], ◌∷◌, ◌++◌, map, filter, fold, Option, Some, None, option_to_list, refl, sym, ap, ◌∙◌, inl, inr, arith, append-nil}
+use Rattle.std.proofs.Common.{◌≡◌, ℕ, ◌≤◌, Bool, true, false, not, cond, ◌&&◌, ◌||◌, nat_le, nat_lt, List, []}
+use Rattle.std.proofs.Common.{◌∷◌, ◌++◌, map, filter, fold, Option, Some, None, option_to_list, refl, sym, ap}
+use Rattle.std.proofs.Common.{◌∙◌, inl, inr, arith, append-nil}
 use Rattle.std.specs.List.{list_any}
 use Rattle.std.proofs.lemmas.Bool.Decides.{nat_tests}
-use Rattle.std.proofs.lemmas.Bool.{cases_lt, leb-true, leb-false, le-leb, lt-leb, lt-ltb, le-ltb, ltb-true, ltb-false}
+use Rattle.std.proofs.lemmas.Bool.{cases_lt, leb-true, leb-false, le-leb, lt-leb, lt-ltb, le-ltb, ltb-true}
+use Rattle.std.proofs.lemmas.Bool.{ltb-false}
 use Rattle.std.proofs.lemmas.List.{map-append}
 use Rattle.std.proofs.lemmas.List.Elements.{filter-append, filter_agree}
 use Rattle.std.proofs.lemmas.List.Sums.{fold-append}
 use Rattle.kb_blocking.specs.declared.state.BlockState.{BlockState}
 use Rattle.kb_blocking.specs.declared.stay.Stay.{Stay}
 use Rattle.kb_blocking.specs.Blocking.{same_matter, later_of, last_on}
-use Rattle.kb_blocking.specs.Private.Stays.{is_before, has_day, cut_by, earlier_of, sooner, first_after, stay_of, with_stay, AreStays}
+use Rattle.kb_blocking.specs.Private.Stays.{is_before, has_day, cut_by, earlier_of, sooner, first_after}
+use Rattle.kb_blocking.specs.Private.Stays.{stay_of, with_stay, AreStays}
 use Rattle.kb_blocking.proofs.Matters.{same_matter-itself, same_matter-as}
 use Rattle.kb_blocking.proofs.CutStays.{cut_by-other, cut_by-before, cut_by-after}
 
@@ -36,7 +40,8 @@ states_of-cut : (state : BlockState) (test other : Stay → Bool)
 states_of-cut state test other same [] = refl
 states_of-cut state test other same (stay ∷ later) =
     rw (same stay)
-    (states_of-cond (other stay) (cut_by state stay) stay (filter test (map (cut_by state) later)) (filter other later)
+    (states_of-cond (other stay) (cut_by state stay) stay (filter test (map (cut_by state) later))
+    (filter other later)
     refl (states_of-cut state test other same later))
 
 -- all cut stays are of the same states
@@ -66,13 +71,16 @@ states_of-filter test other (stay ∷ later) =
 -- the last state, where one more is accepted
 last_on-add : (states : List BlockState) (state matter : BlockState) (day : ℕ)
     → last_on (states ++ state ∷ []) matter day
-    ≡ cond (same_matter matter state && nat_le state.day day) (later_of (last_on states matter day) state) (last_on states matter day)
+    ≡ cond (same_matter matter state && nat_le state.day day) (later_of (last_on states matter day) state)
+    (last_on states matter day)
 last_on-add states state matter day =
     rw (filter-append, fold-append) (by_test (same_matter matter state && nat_le state.day day) refl)
   where
     by_test : (test : Bool) → (same_matter matter state && nat_le state.day day) ≡ test
-        → fold later_of (last_on states matter day) (cond (same_matter matter state && nat_le state.day day) (state ∷ []) [])
-        ≡ cond (same_matter matter state && nat_le state.day day) (later_of (last_on states matter day) state) (last_on states matter day)
+        → fold later_of (last_on states matter day)
+        (cond (same_matter matter state && nat_le state.day day) (state ∷ []) [])
+        ≡ cond (same_matter matter state && nat_le state.day day) (later_of (last_on states matter day) state)
+        (last_on states matter day)
     by_test true is = rw is refl
     by_test false is = rw is refl
 
@@ -80,16 +88,21 @@ last_on-add states state matter day =
 held-add : (stays : List Stay) (state matter : BlockState) (day : ℕ)
     → states_of (held matter day (with_stay stays state))
     ≡ states_of (held matter day (map (cut_by state) stays))
-    ++ cond (same_matter matter state && (nat_le state.day day && is_before day (first_after stays state))) (state ∷ []) []
+    ++ cond (same_matter matter state && (nat_le state.day day && is_before day (first_after stays state)))
+    (state ∷ []) []
 held-add stays state matter day =
     rw (filter-append, map-append)
-    (ap (λ more. states_of (held matter day (map (cut_by state) stays)) ++ more) (by_test (same_matter matter state && (nat_le state.day day && is_before day (first_after stays state))) refl))
+    (ap (λ more. states_of (held matter day (map (cut_by state) stays)) ++ more)
+    (by_test (same_matter matter state && (nat_le state.day day && is_before day (first_after stays state)))
+    refl))
   where
     by_test : (test : Bool)
         → (same_matter matter state && (nat_le state.day day && is_before day (first_after stays state)))
         ≡ test
-        → states_of (cond (same_matter matter state && (nat_le state.day day && is_before day (first_after stays state))) (stay_of stays state ∷ []) [])
-        ≡ cond (same_matter matter state && (nat_le state.day day && is_before day (first_after stays state))) (state ∷ []) []
+        → states_of (cond (same_matter matter state
+        && (nat_le state.day day && is_before day (first_after stays state))) (stay_of stays state ∷ []) [])
+        ≡ cond (same_matter matter state && (nat_le state.day day && is_before day (first_after stays state)))
+        (state ∷ []) []
     by_test true is = rw is refl
     by_test false is = rw is refl
 
@@ -110,12 +123,20 @@ is_later-later_of state (Some found) other =
         ≡ (nat_lt state.day found.day || nat_lt state.day other.day)
     by_tests true true is also =
         simp (is, also)
-        (lt-ltb state.day other.day (omega (arith, leb-true found.day other.day is, ltb-true state.day found.day also)))
+        (lt-ltb state.day other.day (omega (
+          arith,
+          leb-true found.day other.day is,
+          ltb-true state.day found.day also,
+        )))
     by_tests true false is also = simp (is, also)
     by_tests false true is also = simp (is, also)
     by_tests false false is also =
         simp (is, also)
-        (sym (le-ltb state.day other.day (omega (arith, leb-false found.day other.day is, ltb-false state.day found.day also))))
+        (sym (le-ltb state.day other.day (omega (
+          arith,
+          leb-false found.day other.day is,
+          ltb-false state.day found.day also,
+        ))))
 
 -- a truth or a false one is itself
 or_false : (one : Bool) → one ≡ (one || false)
@@ -128,21 +149,26 @@ or_assoc true two three = refl
 or_assoc false two three = refl
 
 -- the last of the states that pass a test is dated after another where one of them is
-is_later-fold : (state : BlockState) (test : BlockState → Bool) (found : Option BlockState) (states : List BlockState)
+is_later-fold : (state : BlockState) (test : BlockState → Bool) (found : Option BlockState)
+    (states : List BlockState)
     → is_later state (fold later_of found (filter test states))
-    ≡ (is_later state found || list_any (λ (other : BlockState). test other && nat_lt state.day other.day) states)
+    ≡ (is_later state found || list_any (λ (other : BlockState). test other && nat_lt state.day other.day)
+    states)
 is_later-fold state test found [] = or_false (is_later state found)
 is_later-fold state test found (other ∷ later) =
     by_test (test other) refl (λ first. is_later-fold state test first later)
   where
     by_test : (one : Bool) → test other ≡ one
         → ((first : Option BlockState) → is_later state (fold later_of first (filter test later))
-        ≡ (is_later state first || list_any (λ (other : BlockState). test other && nat_lt state.day other.day) later))
+        ≡ (is_later state first || list_any (λ (other : BlockState). test other && nat_lt state.day other.day)
+        later))
         → is_later state (fold later_of found (filter test (other ∷ later)))
-        ≡ (is_later state found || list_any (λ (other : BlockState). test other && nat_lt state.day other.day) (other ∷ later))
+        ≡ (is_later state found || list_any (λ (other : BlockState). test other && nat_lt state.day other.day)
+        (other ∷ later))
     by_test true is rest =
         simp is
-        (rest (later_of found other) ∙ rw (is_later-later_of state found other) (or_assoc (is_later state found) (nat_lt state.day other.day) _))
+        (rest (later_of found other) ∙ rw (is_later-later_of state found other)
+        (or_assoc (is_later state found) (nat_lt state.day other.day) _))
     by_test false is rest = simp is (rest found)
 
 -- a day is before the earlier of an end and another day where it is before both
@@ -191,7 +217,8 @@ is_before-fold state day found [] = and_true (is_before day found)
 is_before-fold state day found (stay ∷ later) =
     is_before-fold state day (sooner state found stay) later
     ∙ rw (is_before-sooner state day found stay)
-    (and_assoc-not (is_before day found) (is_between state day stay.state) (list_any (is_between state day) (states_of later)))
+    (and_assoc-not (is_before day found) (is_between state day stay.state)
+    (list_any (is_between state day) (states_of later)))
 
 -- a day is before the first day after a state's where the last state that day isn't dated after it
 is_before-first_after : (states : List BlockState) (stays : List Stay) (state : BlockState) (day : ℕ)
@@ -201,17 +228,20 @@ is_before-first_after states stays state day are =
     is_before-fold state day None stays
     ∙ ap (λ (among : List BlockState). not (list_any (is_between state day) among)) are.same
     ∙ ap not
-    (sym (is_later-fold state (λ (other : BlockState). same_matter state other && nat_le other.day day) None states))
+    (sym (is_later-fold state (λ (other : BlockState). same_matter state other && nat_le other.day day) None
+    states))
 
 -- what was found, where it is later, and else the state, is the later of them
 later-or_state : (found : Option BlockState) (state : BlockState)
-    → filter (λ (other : BlockState). nat_lt state.day other.day) (option_to_list found) ++ cond (not (is_later state found)) (state ∷ []) []
+    → filter (λ (other : BlockState). nat_lt state.day other.day) (option_to_list found)
+    ++ cond (not (is_later state found)) (state ∷ []) []
     ≡ option_to_list (later_of found state)
 later-or_state None state = refl
 later-or_state (Some found) state = by_test (nat_lt state.day found.day) refl
   where
     by_test : (test : Bool) → nat_lt state.day found.day ≡ test
-        → filter (λ (other : BlockState). nat_lt state.day other.day) (found ∷ []) ++ cond (not (nat_lt state.day found.day)) (state ∷ []) []
+        → filter (λ (other : BlockState). nat_lt state.day other.day) (found ∷ [])
+        ++ cond (not (nat_lt state.day found.day)) (state ∷ []) []
         ≡ option_to_list (later_of (Some found) state)
     by_test true is = simp (is, lt-leb found.day state.day (ltb-true state.day found.day is))
     by_test false is = simp (is, le-leb found.day state.day (ltb-false state.day found.day is))
@@ -242,7 +272,8 @@ held-after states stays state day are late =
 -- of another scope and service, and before the day
 held-other : (states : List BlockState) (stays : List Stay) (state matter : BlockState) (day : ℕ)
     → AreStays states stays
-    → ((stay : Stay) → (same_matter matter (cut_by state stay).state && has_day day (cut_by state stay)) ≡ (same_matter matter stay.state && has_day day stay))
+    → ((stay : Stay) → (same_matter matter (cut_by state stay).state && has_day day (cut_by state stay))
+    ≡ (same_matter matter stay.state && has_day day stay))
     → (same_matter matter state && nat_le state.day day) ≡ false
     → states_of (held matter day (with_stay stays state))
     ≡ option_to_list (last_on (states ++ state ∷ []) matter day)
@@ -287,12 +318,14 @@ AreStays-add states stays state are =
           | inr late ↦
               ap states_of (filter_agree (λ (stay : Stay). same_matter matter stay.state && has_day day stay)
               (λ (stay : Stay). same_matter state stay.state && has_day day stay)
-              (λ stay. ap (λ (test : Bool). test && has_day day stay) (same_matter-as matter state stay.state is))
+              (λ stay. ap (λ (test : Bool). test && has_day day stay)
+              (same_matter-as matter state stay.state is))
               (with_stay stays state))
               ∙ held-after states stays state day are late
               ∙ sym (ap (λ (among : List BlockState). option_to_list (fold later_of None among))
               (filter_agree (λ (other : BlockState). same_matter matter other && nat_le other.day day)
               (λ (other : BlockState). same_matter state other && nat_le other.day day)
-              (λ other. ap (λ (test : Bool). test && nat_le other.day day) (same_matter-as matter state other is))
+              (λ other. ap (λ (test : Bool). test && nat_le other.day day)
+              (same_matter-as matter state other is))
               (states ++ state ∷ [])))
         ]

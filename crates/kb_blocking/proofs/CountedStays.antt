@@ -1,5 +1,6 @@
 -- A flag is on where a stay that has the day counts.
-use Rattle.std.proofs.Common.{◌≡◌, ◌<◌, ℕ, ◌-◌, Bool, true, false, ◌&&◌, ◌||◌, List, [], ◌∷◌, filter, length, get_or, Option, Some, None, option_to_list, refl, sym, ap, ◌∙◌}
+use Rattle.std.proofs.Common.{◌≡◌, ◌<◌, ℕ, ◌-◌, Bool, true, false, ◌&&◌, ◌||◌, List, [], ◌∷◌, filter, length}
+use Rattle.std.proofs.Common.{get_or, Option, Some, None, option_to_list, refl, sym, ap, ◌∙◌}
 use Rattle.std.specs.List.{list_any}
 use Rattle.std.proofs.lemmas.Bool.{and_parts, and_from}
 use Rattle.std.proofs.lemmas.List.Folds.{Any-from_list_any, list_any_at}
@@ -7,7 +8,8 @@ use Rattle.kb_blocking.specs.declared.state.Flag.{Flag}
 use Rattle.kb_blocking.specs.declared.state.BlockState.{BlockState}
 use Rattle.kb_blocking.specs.declared.state.Chain.{Chain}
 use Rattle.kb_blocking.specs.declared.stay.Stay.{Stay}
-use Rattle.kb_blocking.specs.Blocking.{same_matter, is_on_chain, has_flag, blocks, last_on, is_on, differ, turns}
+use Rattle.kb_blocking.specs.Blocking.{same_matter, is_on_chain, has_flag, blocks, last_on, is_on, differ}
+use Rattle.kb_blocking.specs.Blocking.{turns}
 use Rattle.kb_blocking.specs.Private.Stays.{has_day, counts, counts_on, AreStays}
 use Rattle.kb_blocking.proofs.Matters.{same_matter-itself, is_on_chain-as}
 use Rattle.kb_blocking.proofs.AddedStays.{states_of, held}
@@ -79,10 +81,12 @@ unfolding is_on
 is_on-stays states stays chain flag day are =
     any-same (λ (state : BlockState). is_on_chain chain state.scope && blocks flag (last_on states state day))
     (λ (state : BlockState). is_on_chain chain state.scope && list_any (is_held state flag day) stays)
-    (λ state. ap (λ (test : Bool). is_on_chain chain state.scope && test) (blocks-last_on states stays state flag day are))
+    (λ state. ap (λ (test : Bool). is_on_chain chain state.scope && test)
+    (blocks-last_on states stays state flag day are))
     states
     ∙ ap
-    (list_any (λ (state : BlockState). is_on_chain chain state.scope && list_any (is_held state flag day) stays))
+    (list_any (λ (state : BlockState). is_on_chain chain state.scope
+    && list_any (is_held state flag day) stays))
     (sym are.same)
     ∙ any-states_of
     (λ (state : BlockState). is_on_chain chain state.scope && list_any (is_held state flag day) stays) stays
@@ -103,13 +107,15 @@ blocked-counts stays chain flag day any =
         and_parts (is_on_chain chain stay.state.scope && flagged flag stay.state) (has_day day stay) counts in
         let both = and_parts (is_on_chain chain stay.state.scope) (flagged flag stay.state) parts.0 in
         let held = and_from (same_matter stay.state stay.state && has_day day stay) (flagged flag stay.state)
-        (and_from (same_matter stay.state stay.state) (has_day day stay) (same_matter-itself stay.state) parts.1)
+        (and_from (same_matter stay.state stay.state) (has_day day stay) (same_matter-itself stay.state)
+        parts.1)
         both.1 in
         let inner =
         list_any_at (is_held stay.state flag day) stays place stay within
         (ap (is_held stay.state flag day) is ∙ held) in
         list_any_at (is_blocked_by stays chain flag day) stays place stay within
-        (ap (is_blocked_by stays chain flag day) is ∙ and_from (is_on_chain chain stay.state.scope) _ both.0 inner)
+        (ap (is_blocked_by stays chain flag day) is ∙ and_from (is_on_chain chain stay.state.scope) _ both.0
+        inner)
 
 -- and where there is such a one, the stay that has the day counts
 counts-blocked : (stays : List Stay) (chain : Chain) (flag : Flag) (day : ℕ)

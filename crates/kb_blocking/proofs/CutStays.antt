@@ -1,6 +1,8 @@
 -- Which days the stays have, where one more state is accepted.
-use Rattle.std.proofs.Common.{◌≡◌, ℕ, ◌<◌, ◌≤◌, Bool, true, false, ◌&&◌, nat_le, nat_lt, Option, Some, None, refl, sym, ◌∙◌, arith}
-use Rattle.std.proofs.lemmas.Bool.{and_parts, and_right, both_ways, leb-true, leb-false, lt-ltb, le-ltb, ltb-true}
+use Rattle.std.proofs.Common.{◌≡◌, ℕ, ◌<◌, ◌≤◌, Bool, true, false, ◌&&◌, nat_le, nat_lt, Option, Some, None}
+use Rattle.std.proofs.Common.{refl, sym, ◌∙◌, arith}
+use Rattle.std.proofs.lemmas.Bool.{and_parts, and_right, both_ways, leb-true, leb-false, lt-ltb, le-ltb}
+use Rattle.std.proofs.lemmas.Bool.{ltb-true}
 use Rattle.kb_blocking.specs.declared.state.BlockState.{BlockState}
 use Rattle.kb_blocking.specs.declared.stay.Stay.{Stay}
 use Rattle.kb_blocking.specs.Blocking.{same_matter}
@@ -88,8 +90,13 @@ cut_by-after state day stay late =
         ≡ ((same_matter state stay.state && has_day day stay) && nat_lt state.day stay.state.day)
     by_tests false begun before is_same is_begun is_left = rw is_same refl
     by_tests true true true is_same is_begun is_left =
-        simp
-        (is_same, is_begun, is_left, le-ltb day state.day late, le-ltb state.day stay.state.day (leb-true stay.state.day state.day is_begun))
+        simp (
+          is_same,
+          is_begun,
+          is_left,
+          le-ltb day state.day late,
+          le-ltb state.day stay.state.day (leb-true stay.state.day state.day is_begun),
+        )
         (and_false (nat_le stay.state.day day) (has_day day stay))
     by_tests true true false is_same is_begun is_left =
         simp (is_same, is_begun, is_left, over (is_before day stay.until) refl is_left)

@@ -37,8 +37,10 @@ pub same_matter-as : (matter state other : BlockState) → same_matter matter st
     → same_matter matter other ≡ same_matter state other
 same_matter-as matter state other same =
     let parts = and_parts _ _ same in
-    rw
-    (same_scope-is matter.scope state.scope parts.0, (bytes_eq-Decides matter.service state.service).0 parts.1)
+    rw (
+      same_scope-is matter.scope state.scope parts.0,
+      (bytes_eq-Decides matter.service state.service).0 parts.1,
+    )
     refl
 
 -- two states with the scope and service of a third have one

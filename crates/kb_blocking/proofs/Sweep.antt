@@ -1,5 +1,6 @@
 -- The days on which a flag turns, where stretches follow in the order of their first days.
-use Rattle.std.proofs.Common.{◌≡◌, ℕ, ◌<◌, ◌≤◌, Bool, true, false, ◌&&◌, ◌||◌, nat_le, nat_lt, List, [], ◌∷◌, Option, Some, None, option_to_list, refl, ap, ◌∙◌, arith}
+use Rattle.std.proofs.Common.{◌≡◌, ℕ, ◌<◌, ◌≤◌, Bool, true, false, ◌&&◌, ◌||◌, nat_le, nat_lt, List, [], ◌∷◌}
+use Rattle.std.proofs.Common.{Option, Some, None, option_to_list, refl, ap, ◌∙◌, arith}
 use Rattle.std.specs.Prelude.{⊤}
 use Rattle.std.specs.List.{list_any}
 use Rattle.std.proofs.lemmas.Bool.Decides.{nat_tests}
@@ -34,7 +35,8 @@ covers-none day from [] early ordered = refl
 covers-none day from (stretch ∷ later) early ordered =
     let here = ordered.0 in
     or_from (covers day stretch) (list_any (covers day) later)
-    (and_left (nat_le stretch.from day) (is_before day stretch.until) (lt-leb stretch.from day (omega (arith, here))))
+    (and_left (nat_le stretch.from day) (is_before day stretch.until)
+    (lt-leb stretch.from day (omega (arith, here))))
     (covers-none day stretch.from later (omega (arith, here)) ordered.2)
 
 -- the later of two ends is behind a day where the first is
@@ -115,7 +117,8 @@ pub turned-turns_from : (day from : ℕ) (until : Option ℕ) (later : List Stre
 turned-turns_from day from until [] before ordered = turned-one day from until before
 turned-turns_from day from until (stretch ∷ later) before ordered =
     by_test until (touches until stretch.from) refl before
-    (turned-turns_from day from (later_end until stretch.until) later (is_before-later_end from until stretch.until before)
+    (turned-turns_from day from (later_end until stretch.until) later
+    (is_before-later_end from until stretch.until before)
     (AreOrdered-earlier from stretch.from later ordered.0 ordered.2))
     (turned-turns_from day stretch.from stretch.until later ordered.1 ordered.2)
   where
@@ -138,9 +141,11 @@ turned-turns_from day from until (stretch ∷ later) before ordered =
     by_test (Some until) false apart_is before joined apart =
         let after = leb-false stretch.from until apart_is in
         rw apart_is
-        (turned-before day from until (stretch.from ∷ turns_from stretch.until later) (covers day stretch || list_any (covers day) later)
+        (turned-before day from until (stretch.from ∷ turns_from stretch.until later)
+        (covers day stretch || list_any (covers day) later)
         (ltb-true from until before)
-        (λ low. covers-none day stretch.from (stretch ∷ later) (omega (arith, after, low)) (omega arith, ordered.1, ordered.2))
+        (λ low. covers-none day stretch.from (stretch ∷ later) (omega (arith, after, low))
+        (omega arith, ordered.1, ordered.2))
         apart)
 
 -- days of which each is after the one before
@@ -156,7 +161,8 @@ AreRising-turns_from from None [] before ordered = tt
 AreRising-turns_from from (Some until) [] before ordered = (ltb-true from until before, tt)
 AreRising-turns_from from until (stretch ∷ later) before ordered =
     by_test until (touches until stretch.from) refl before
-    (AreRising-turns_from from (later_end until stretch.until) later (is_before-later_end from until stretch.until before)
+    (AreRising-turns_from from (later_end until stretch.until) later
+    (is_before-later_end from until stretch.until before)
     (AreOrdered-earlier from stretch.from later ordered.0 ordered.2))
     (AreRising-turns_from stretch.from stretch.until later ordered.1 ordered.2)
   where

@@ -1,8 +1,11 @@
 -- The days on which a flag turns are where it differs from the day before.
-use Rattle.std.proofs.Common.{◌≡◌, ◌↔◌, ℕ, ◌-◌, ◌<◌, ◌≤◌, Bool, true, false, not, ◌&&◌, ◌||◌, nat_eq, nat_le, List, [], ◌∷◌, length, get_or, All, AllPairs, Contains, refl, sym, ap, ◌∙◌, arith}
+use Rattle.std.proofs.Common.{◌≡◌, ◌↔◌, ℕ, ◌-◌, ◌<◌, ◌≤◌, Bool, true, false, not, ◌&&◌, ◌||◌, nat_eq, nat_le}
+use Rattle.std.proofs.Common.{List, [], ◌∷◌, length, get_or, All, AllPairs, Contains, refl, sym, ap, ◌∙◌}
+use Rattle.std.proofs.Common.{arith}
 use Rattle.std.specs.List.{list_any}
 use Rattle.std.specs.List.Sorted.{IsPermutation, IsNonDecreasingBy}
-use Rattle.std.proofs.lemmas.Bool.{and_parts, and_from, both_ways, eqb-true, eqb-false, eq-eqb, ne_eqb, leb-true, leb-false, le-leb, lt-leb, or_from}
+use Rattle.std.proofs.lemmas.Bool.{and_parts, and_from, both_ways, eqb-true, eqb-false, eq-eqb, ne_eqb}
+use Rattle.std.proofs.lemmas.Bool.{leb-true, leb-false, le-leb, lt-leb, or_from}
 use Rattle.std.proofs.lemmas.List.Elements.{All-nil, All-cons, All-head, All-tail}
 use Rattle.std.proofs.lemmas.List.Kept.{AllPairs-cons}
 use Rattle.std.proofs.lemmas.List.Folds.{Any-from_list_any, list_any_at}
@@ -23,7 +26,8 @@ AreRising-all from [] rising = All-nil (λ (day : ℕ). from < day)
 AreRising-all from (day ∷ later) rising =
     let here = rising.0 in
     let rest = AreRising-all day later rising.1 in
-    All-cons (λ (other : ℕ). from < other) day later here (λ place other within. let low = rest place other within in omega (arith, here, low))
+    All-cons (λ (other : ℕ). from < other) day later here
+    (λ place other within. let low = rest place other within in omega (arith, here, low))
 
 -- each of them is before those behind it
 pub AreRising-pairs : (from : ℕ) (days : List ℕ) → AreRising from days
@@ -69,7 +73,8 @@ differ-turned day from (turn ∷ later) rising =
 
     at_once : (test : Bool) → nat_le turn day ≡ test → nat_eq day turn ≡ false → nat_le turn (day - 1) ≡ test
     at_once true begun other =
-        le-leb turn (day - 1) (let low = leb-true turn day begun in let not_it = eqb-false day turn other in omega (arith, low, not_it))
+        le-leb turn (day - 1) (let low = leb-true turn day begun in let not_it = eqb-false day turn other
+        in omega (arith, low, not_it))
     at_once false early other =
         lt-leb turn (day - 1) (let low = leb-false turn day early in omega (arith, low, positive))
 
@@ -100,7 +105,8 @@ Contains-any day days = (there, back)
     back : list_any (nat_eq day) days ≡ true → Contains days day
     back any =
         let found =
-        Any-from_list_any (nat_eq day) days any in at found.0 found.1 found.2 found.3 (eqb-true day found.1 found.4)
+        Any-from_list_any (nat_eq day) days any in at found.0 found.1 found.2 found.3
+        (eqb-true day found.1 found.4)
 
 -- a stay that counts covers the day by its stretch
 covers-stretches_of : (chain : Chain) (flag : Flag) (day : ℕ) (stays : List Stay)
@@ -118,7 +124,8 @@ covers-stretches_of chain flag day (stay ∷ later) =
         let before =
         is_before-earlier stay.state.day day stay.until (leb-true stay.state.day day parts.0) parts.1 in
         absurd (both_ways (has_day stay.state.day stay) without
-        (and_from (nat_le stay.state.day stay.state.day) (is_before stay.state.day stay.until) (le-leb stay.state.day stay.state.day (omega arith)) before))
+        (and_from (nat_le stay.state.day stay.state.day) (is_before stay.state.day stay.until)
+        (le-leb stay.state.day stay.state.day (omega arith)) before))
 
     by_tests : (one two : Bool) → counts chain flag stay ≡ one → has_day stay.state.day stay ≡ two
         → list_any (covers day) (stretches_of chain flag later) ≡ list_any (counts_on chain flag day) later
@@ -137,14 +144,17 @@ stretches_of-begun chain flag (stay ∷ later) =
     by_test (counts chain flag stay && has_day stay.state.day stay) refl (stretches_of-begun chain flag later)
   where
     by_test : (test : Bool) → (counts chain flag stay && has_day stay.state.day stay) ≡ test
-        → All (λ (stretch : Stretch). is_before stretch.from stretch.until ≡ true) (stretches_of chain flag later)
-        → All (λ (stretch : Stretch). is_before stretch.from stretch.until ≡ true) (stretches_of chain flag (stay ∷ later))
+        → All (λ (stretch : Stretch). is_before stretch.from stretch.until ≡ true)
+        (stretches_of chain flag later)
+        → All (λ (stretch : Stretch). is_before stretch.from stretch.until ≡ true)
+        (stretches_of chain flag (stay ∷ later))
     by_test true is rest =
         let parts = and_parts (counts chain flag stay) (has_day stay.state.day stay) is in
         let begun =
         (and_parts (nat_le stay.state.day stay.state.day) (is_before stay.state.day stay.until) parts.1).1 in
         rw is
-        (All-cons (λ (stretch : Stretch). is_before stretch.from stretch.until ≡ true) (stretch_of stay) (stretches_of chain flag later) begun rest)
+        (All-cons (λ (stretch : Stretch). is_before stretch.from stretch.until ≡ true) (stretch_of stay)
+        (stretches_of chain flag later) begun rest)
     by_test false is rest = rw is rest
 
 -- sorted stretches that have their first days are in order
@@ -169,7 +179,8 @@ turned-turn_days day [] sorted begun = refl
 turned-turn_days day (stretch ∷ later) sorted begun =
     turned-turns_from day stretch.from stretch.until later
     (All-head (λ (other : Stretch). is_before other.from other.until ≡ true) stretch later begun)
-    (AreOrdered-sorted stretch later sorted (All-tail (λ (other : Stretch). is_before other.from other.until ≡ true) stretch later begun))
+    (AreOrdered-sorted stretch later sorted (All-tail
+    (λ (other : Stretch). is_before other.from other.until ≡ true) stretch later begun))
 
 -- their turns rise
 AreRising-turn_days : (stretches : List Stretch)
@@ -181,14 +192,16 @@ AreRising-turn_days (stretch ∷ later) sorted begun dated = (
   All-head (λ (other : Stretch). 0 < other.from) stretch later dated,
   AreRising-turns_from stretch.from stretch.until later
       (All-head (λ (other : Stretch). is_before other.from other.until ≡ true) stretch later begun)
-      (AreOrdered-sorted stretch later sorted (All-tail (λ (other : Stretch). is_before other.from other.until ≡ true) stretch later begun)),
+      (AreOrdered-sorted stretch later sorted (All-tail
+      (λ (other : Stretch). is_before other.from other.until ≡ true) stretch later begun)),
 )
 
 -- the stretches of stays, sorted by their first days
-pub record AreSorted (chain : Chain) (flag : Flag) (stays : List Stay) (stretches : List Stretch) : Type 0 where
-  pub same : IsPermutation (stretches_of chain flag stays) stretches
-  pub sorted : IsNonDecreasingBy (λ (stretch : Stretch). stretch.from) stretches
-  pub dated : All (λ (stretch : Stretch). 0 < stretch.from) (stretches_of chain flag stays)
+pub record AreSorted (chain : Chain) (flag : Flag) (stays : List Stay) (stretches : List Stretch) : Type 0
+  where
+    pub same : IsPermutation (stretches_of chain flag stays) stretches
+    pub sorted : IsNonDecreasingBy (λ (stretch : Stretch). stretch.from) stretches
+    pub dated : All (λ (stretch : Stretch). 0 < stretch.from) (stretches_of chain flag stays)
 
 -- their turns rise, from a first day on
 turn_days-rising : (chain : Chain) (flag : Flag) (stays : List Stay) (stretches : List Stretch)
@@ -196,8 +209,10 @@ turn_days-rising : (chain : Chain) (flag : Flag) (stays : List Stay) (stretches 
     → AreRising 0 (turn_days stretches)
 turn_days-rising chain flag stays stretches are =
     AreRising-turn_days stretches are.sorted
-    (All-permutation (λ (other : Stretch). is_before other.from other.until ≡ true) (stretches_of chain flag stays) stretches are.same (stretches_of-begun chain flag stays))
-    (All-permutation (λ (other : Stretch). 0 < other.from) (stretches_of chain flag stays) stretches are.same are.dated)
+    (All-permutation (λ (other : Stretch). is_before other.from other.until ≡ true)
+    (stretches_of chain flag stays) stretches are.same (stretches_of-begun chain flag stays))
+    (All-permutation (λ (other : Stretch). 0 < other.from) (stretches_of chain flag stays) stretches are.same
+    are.dated)
 
 -- and it is on where a stay counts
 turn_days-on : (chain : Chain) (flag : Flag) (stays : List Stay) (stretches : List Stretch) (day : ℕ)
@@ -205,7 +220,8 @@ turn_days-on : (chain : Chain) (flag : Flag) (stays : List Stay) (stretches : Li
     → turned day (turn_days stretches) ≡ list_any (counts_on chain flag day) stays
 turn_days-on chain flag stays stretches day are =
     turned-turn_days day stretches are.sorted
-    (All-permutation (λ (other : Stretch). is_before other.from other.until ≡ true) (stretches_of chain flag stays) stretches are.same (stretches_of-begun chain flag stays))
+    (All-permutation (λ (other : Stretch). is_before other.from other.until ≡ true)
+    (stretches_of chain flag stays) stretches are.same (stretches_of-begun chain flag stays))
     ∙ sym (list_any-IsPermutation (covers day) (stretches_of chain flag stays) stretches are.same)
     ∙ covers-stretches_of chain flag day stays
 
@@ -221,7 +237,8 @@ pub turn_days-exactly : (chain : Chain) (flag : Flag) (stays : List Stay) (stret
     → AreSorted chain flag stays stretches
     → (day : ℕ) → Contains (turn_days stretches) day
     ↔
-    (differ (list_any (counts_on chain flag day) stays) (list_any (counts_on chain flag (day - 1)) stays) ≡ true)
+    (differ (list_any (counts_on chain flag day) stays) (list_any (counts_on chain flag (day - 1)) stays)
+    ≡ true)
 turn_days-exactly chain flag stays stretches are day =
     rw (
       ← turn_days-on chain flag stays stretches day are,

@@ -1,5 +1,6 @@
 -- Blocking states: the last one of a scope and service on a day, and whether a flag is on.
-use Rattle.std.specs.Prelude.{ℕ, ◌-◌, Bool, true, false, not, ◌&&◌, nat_eq, nat_le, bytes_eq, List, fold, filter, if◌then◌else◌, Option, Some, None}
+use Rattle.std.specs.Prelude.{ℕ, ◌-◌, Bool, true, false, not, ◌&&◌, nat_eq, nat_le, bytes_eq, List, fold}
+use Rattle.std.specs.Prelude.{filter, if◌then◌else◌, Option, Some, None}
 use Rattle.std.specs.List.{list_any}
 use Rattle.kb_blocking.specs.declared.state.Scope.{Scope}
 use Rattle.kb_blocking.specs.declared.state.Scope.TheVariants.{Account, Bundle, Subscription}

@@ -1,7 +1,8 @@
 //! Stays: how long each state counts.
 ghost use Rattle.std.specs.Prelude.{◌≡◌, map, IfOk};
 ghost use Rattle.std.specs.List.{list_any};
-ghost use Rattle.kb_blocking.specs.Private.Stays.{is_before, has_day, counts, counts_on, end_by, cut_by, earlier_of, sooner, first_after, with_stay};
+ghost use Rattle.kb_blocking.specs.Private.Stays.{is_before, has_day, counts, counts_on, end_by, cut_by};
+ghost use Rattle.kb_blocking.specs.Private.Stays.{earlier_of, sooner, first_after, with_stay};
 
 use crate::chain::is_on_chain;
 use crate::flags::has_flag;

@@ -1,6 +1,7 @@
 //! The days on which a flag turns: where stretches that touch or overlap are one, the first day and the end
 //! of each.
-ghost use Rattle.std.specs.Prelude.{◌≡◌, ◌<◌, ◌↔◌, ◌-◌, ℕ, true, Contains, AllPairs, IfOk, OnOk, ◌++◌, option_to_list};
+ghost use Rattle.std.specs.Prelude.{◌≡◌, ◌<◌, ◌↔◌, ◌-◌, ℕ, true, Contains, AllPairs, IfOk, OnOk, ◌++◌};
+ghost use Rattle.std.specs.Prelude.{option_to_list};
 ghost use Rattle.std.specs.List.{list_any};
 ghost use Rattle.std.specs.List.Sorted.{IsPermutation, IsNonDecreasingBy};
 ghost use Rattle.kb_blocking.specs.Blocking.{differ};

@@ -1,5 +1,6 @@
 -- Names of which none stands earlier are distinct, so the names of a valid version are.
-use Rattle.std.proofs.Common.{◌≡◌, ℕ, ◌<◌, Bool, true, false, List, [], ◌∷◌, length, map, take, get_or, slice_get, bytes_eq, Some, inl, inr, refl, sym, subst, ◌∙◌, arith}
+use Rattle.std.proofs.Common.{◌≡◌, ℕ, ◌<◌, Bool, true, false, List, [], ◌∷◌, length, map, take, get_or}
+use Rattle.std.proofs.Common.{slice_get, bytes_eq, Some, inl, inr, refl, sym, subst, ◌∙◌, arith}
 use Rattle.std.specs.List.{IsDistinct, list_any}
 use Rattle.std.proofs.lemmas.Bool.{cases_Bool, or_parts, true≢false}
 use Rattle.std.proofs.lemmas.Option.{slice_get-get_or}
@@ -30,7 +31,8 @@ bytes_eq-apart a b differ =
     ]
 
 -- what a member that is there passes
-pub passes_at-some : {A : Type 0} (members : List A) (place : ℕ) (test : A → Bool) (member : A) → slice_get members place ≡ Some member
+pub passes_at-some : {A : Type 0} (members : List A) (place : ℕ) (test : A → Bool) (member : A)
+    → slice_get members place ≡ Some member
     → passes_at members place test ≡ test member
 passes_at-some members place test member at = rw at refl
 
@@ -44,29 +46,37 @@ module _ {A : Type 0} (name : A → List ℕ) where
       let same : A → Bool = λ other. bytes_eq (name member) (name other) in
       let at = slice_get-get_or members later d within in
       let none : list_any same (take later members) ≡ false =
-      sym (passes_at-some members later (λ (m : A). list_any (λ (other : A). bytes_eq (name m) (name other)) (take later members)) member at) ∙ fresh in
+      sym (passes_at-some members later (λ (m : A). list_any (λ (other : A). bytes_eq (name m) (name other))
+      (take later members)) member at) ∙ fresh in
       let long = length-take-le later members (omega arith) in
-      let there : get_or (take later members) first d ≡ get_or members first d = get_or-take later members first d before in
+      let there : get_or (take later members) first d ≡ get_or members first d =
+      get_or-take later members first d before in
       elim (cases_Bool (same (get_or (take later members) first d))) [
-        | inl holds ↦ absurd (true≢false (sym (list_any_at same (take later members) first d (omega (arith, long)) holds) ∙ none))
+        | inl holds ↦ absurd (true≢false (sym (list_any_at same (take later members) first d
+            (omega (arith, long)) holds) ∙ none))
         | inr fails ↦ subst (λ (m : A). same m ≡ false) there fails
       ]
 
   -- names of which none stands earlier are distinct
   IsDistinct-fresh : (members : List A)
-      → ((place : ℕ) → place < length members → repeats_at (λ (a : A) (b : A). bytes_eq (name a) (name b)) members place ≡ false)
+      → ((place : ℕ) → place < length members → repeats_at (λ (a : A) (b : A). bytes_eq (name a) (name b))
+      members place ≡ false)
       → IsDistinct bytes_eq (map name members)
-  IsDistinct-fresh [] fresh = IsDistinct-from_apart bytes_eq [] (λ first later d before within. absurd (omega arith))
-  IsDistinct-fresh (member ∷ members) fresh = IsDistinct-from_apart bytes_eq (map name (member ∷ members)) apart
+  IsDistinct-fresh [] fresh = IsDistinct-from_apart bytes_eq []
+      (λ first later d before within. absurd (omega arith))
+  IsDistinct-fresh (member ∷ members) fresh = IsDistinct-from_apart bytes_eq (map name (member ∷ members))
+      apart
     where
       apart : (first later : ℕ) (d : List ℕ) → first < later → later < length (map name (member ∷ members))
-          → bytes_eq (get_or (map name (member ∷ members)) first d) (get_or (map name (member ∷ members)) later d) ≡ false
+          → bytes_eq (get_or (map name (member ∷ members)) first d)
+          (get_or (map name (member ∷ members)) later d) ≡ false
       apart first later d before within =
           let long = length-map (member ∷ members) name in
           let there : later < length (member ∷ members) = omega (arith, long) in
           let one = get_or-map name (member ∷ members) first member d (omega arith) in
           let other = get_or-map name (member ∷ members) later member d there in
-          rw (one, other) (bytes_eq-apart (name (get_or (member ∷ members) later member)) (name (get_or (member ∷ members) first member))
+          rw (one, other) (bytes_eq-apart (name (get_or (member ∷ members) later member))
+          (name (get_or (member ∷ members) first member))
           (not_earlier (member ∷ members) first later member before there (fresh later there)))
 
 -- the names of a valid version are distinct
@@ -78,5 +88,6 @@ HasDistinctNames-valid version valid =
       plans = IsDistinct-fresh (λ (plan : Plan). plan.name) version.plans
           (λ place within. valid-nowhere_broken version valid PlanNames place within);
       lists = IsDistinct-fresh (λ (list : PriceList). list.name) version.lists
-          (λ place within. (or_parts _ _ (or_parts _ _ (valid-nowhere_broken version valid Lists place (omega arith))).0).0);
+          (λ place within. (or_parts _ _ (or_parts _ _
+          (valid-nowhere_broken version valid Lists place (omega arith))).0).0);
     }

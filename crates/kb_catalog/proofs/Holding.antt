@@ -4,11 +4,13 @@ use Rattle.std.proofs.lemmas.Bool.{or_parts, not-false}
 use Rattle.kb_catalog.specs.declared.version.Version.{Version}
 use Rattle.kb_catalog.specs.declared.rule.Rule.TheVariants.{Cases}
 use Rattle.kb_catalog.specs.VersionRules.{rule_list_wrong, IsValid}
-use Rattle.kb_catalog.specs.Cases.{Asks, ends_open, decides_wrongly, EndOpen, asks_of_change_policy, asks_of_change_alignment, asks_of_cancel, asks_of_create, asks_of_billing}
+use Rattle.kb_catalog.specs.Cases.{Asks, ends_open, decides_wrongly, EndOpen, asks_of_change_policy}
+use Rattle.kb_catalog.specs.Cases.{asks_of_change_alignment, asks_of_cancel, asks_of_create, asks_of_billing}
 use Rattle.kb_catalog.proofs.RulesHold.{valid-nowhere_broken}
 
 -- a rule list that doesn't decide wrongly ends with a case without condition
-decides-open : {A : Type 0} (version : Version) (asks : A → Asks) (cases : List A) → decides_wrongly version asks cases ≡ false
+decides-open : {A : Type 0} (version : Version) (asks : A → Asks) (cases : List A)
+    → decides_wrongly version asks cases ≡ false
     → ends_open asks cases ≡ true
 decides-open version asks cases right = not-false _ (or_parts _ _ right).0
 
@@ -19,7 +21,8 @@ EndOpen-valid version valid =
     let at_1 : rule_list_wrong version 1 ≡ false = valid-nowhere_broken version valid Cases 1 (omega arith) in
     let at_2 : rule_list_wrong version 2 ≡ false = valid-nowhere_broken version valid Cases 2 (omega arith) in
     let at_3 : rule_list_wrong version 3 ≡ false = valid-nowhere_broken version valid Cases 3 (omega arith) in
-    let at_4 : rule_list_wrong version 4 ≡ false = valid-nowhere_broken version valid Cases 4 (omega arith) in (
+    let at_4 : rule_list_wrong version 4 ≡ false =
+    valid-nowhere_broken version valid Cases 4 (omega arith) in (
       decides-open version asks_of_change_policy version.rules.change_policy
           (or_parts _ _ (or_parts _ _ (or_parts _ _ (or_parts _ _ at_0).0).0).0).0,
       decides-open version asks_of_change_alignment version.rules.change_alignment

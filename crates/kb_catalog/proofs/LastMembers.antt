@@ -28,7 +28,8 @@ by_last {A} {Y} given of_last one more members earlier last split = ap given spl
 -- what the last member has to pass, and each earlier one to fail
 pub by_last_alone : {A : Type 0} (given : List A → Bool) (ends before : A → Bool)
     → ((member : A) → given (member ∷ []) ≡ ends member)
-    → ((member next : A) (later : List A) → given (member ∷ next ∷ later) ≡ (not (before member) && given (next ∷ later)))
+    → ((member next : A) (later : List A) → given (member ∷ next ∷ later)
+    ≡ (not (before member) && given (next ∷ later)))
     → (members earlier : List A) (last : A) → members ≡ earlier ++ last ∷ []
     → given members ≡ (ends last && not (list_any before earlier))
 by_last_alone {A} given ends before one more members earlier last split = ap given split ∙ go earlier
@@ -39,5 +40,6 @@ by_last_alone {A} given ends before one more members earlier last split = ap giv
         more member last [] ∙ ap (λ passes. not (before member) && passes) (go [])
         ∙ one_more (before member) (ends last) false
     go (member ∷ next ∷ later) =
-        more member next (later ++ last ∷ []) ∙ ap (λ passes. not (before member) && passes) (go (next ∷ later))
+        more member next (later ++ last ∷ []) ∙ ap (λ passes. not (before member) && passes)
+        (go (next ∷ later))
         ∙ one_more (before member) (ends last) (list_any before (next ∷ later))

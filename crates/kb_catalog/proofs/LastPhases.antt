@@ -23,7 +23,8 @@ unlimited (Years count) holds = absurd (cc)
 unlimited Unlimited holds = refl
 
 -- one more phase before, which isn't unlimited
-EndsUnlimited-cons : (phase : Phase) (later : List Phase) → is_unlimited phase.span ≡ false → EndsUnlimited later
+EndsUnlimited-cons : (phase : Phase) (later : List Phase) → is_unlimited phase.span ≡ false
+    → EndsUnlimited later
     → EndsUnlimited (phase ∷ later)
 EndsUnlimited-cons phase later limited ends =
     record {
@@ -44,9 +45,11 @@ EndsUnlimited-test (phase ∷ next ∷ later) holds =
     EndsUnlimited-cons phase (next ∷ later) (not-true _ parts.0) (EndsUnlimited-test (next ∷ later) parts.1)
 
 -- each plan's phases end so
-pub EndsUnlimited-valid : (version : Version) → IsValid version → All (λ (plan : Plan). EndsUnlimited plan.phases) version.plans
+pub EndsUnlimited-valid : (version : Version) → IsValid version
+    → All (λ (plan : Plan). EndsUnlimited plan.phases) version.plans
 EndsUnlimited-valid version valid place d within =
     let at = slice_get-get_or version.plans place d within in
     let wrong = valid-nowhere_broken version valid LastPhase place within in
-    let right = sym (passes_at-some version.plans place (λ (plan : Plan). not (ends_unlimited plan.phases)) (get_or version.plans place d) at) ∙ wrong in
+    let right = sym (passes_at-some version.plans place (λ (plan : Plan). not (ends_unlimited plan.phases))
+    (get_or version.plans place d) at) ∙ wrong in
     EndsUnlimited-test (get_or version.plans place d).phases (not-false _ right)

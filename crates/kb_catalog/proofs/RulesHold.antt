@@ -2,8 +2,11 @@
 use Rattle.std.proofs.Common.{◌≡◌, ℕ, ◌<◌, false, List, [], ◌∷◌, Option, Some, None, refl}
 use Rattle.kb_catalog.specs.declared.version.Version.{Version}
 use Rattle.kb_catalog.specs.declared.rule.Rule.{Rule}
-use Rattle.kb_catalog.specs.declared.rule.Rule.TheVariants.{Currencies, ProductNames, AddOns, AddOnsOnce, PlanNames, PlanProducts, LastPhase, PhaseKinds, PhasePeriods, Prices, Lists, Cases}
-use Rattle.kb_catalog.specs.VersionRules.{is_broken_at, places, first_offender, fault_among, Holds, IsValid, all_rules}
+use Rattle.kb_catalog.specs.declared.rule.Rule.TheVariants.{Currencies, ProductNames, AddOns, AddOnsOnce}
+use Rattle.kb_catalog.specs.declared.rule.Rule.TheVariants.{PlanNames, PlanProducts, LastPhase, PhaseKinds}
+use Rattle.kb_catalog.specs.declared.rule.Rule.TheVariants.{PhasePeriods, Prices, Lists, Cases}
+use Rattle.kb_catalog.specs.VersionRules.{is_broken_at, places, first_offender, fault_among, Holds, IsValid}
+use Rattle.kb_catalog.specs.VersionRules.{all_rules}
 use Rattle.kb_base.proofs.FirstPlaces.{first_place-fails}
 
 -- each of some rules holds
@@ -66,7 +69,13 @@ module _ (version : Version) where
                 hold PlanNames,
                 (
                   hold PlanProducts,
-                  (hold LastPhase, (hold PhaseKinds, (hold PhasePeriods, (hold Prices, (hold Lists, (hold Cases, tt)))))),
+                  (
+                    hold LastPhase,
+                    (
+                      hold PhaseKinds,
+                      (hold PhasePeriods, (hold Prices, (hold Lists, (hold Cases, tt)))),
+                    ),
+                  ),
                 ),
               ),
             ),
@@ -78,4 +87,5 @@ module _ (version : Version) where
   pub valid-nowhere_broken : IsValid version → (rule : Rule) (place : ℕ) → place < places version rule
       → is_broken_at version rule place ≡ false
   valid-nowhere_broken valid rule place within =
-      first_place-fails (is_broken_at version rule) (places version rule) place (valid-holds valid rule) within
+      first_place-fails (is_broken_at version rule) (places version rule) place (valid-holds valid rule)
+      within

@@ -1,5 +1,6 @@
 -- The cases of a version's rules.
-use Rattle.std.specs.Prelude.{ℕ, ◌≡◌, Bool, true, false, not, ◌&&◌, ◌||◌, List, [], ◌∷◌, is_none, Option, Some, None}
+use Rattle.std.specs.Prelude.{ℕ, ◌≡◌, Bool, true, false, not, ◌&&◌, ◌||◌, List, [], ◌∷◌, is_none, Option}
+use Rattle.std.specs.Prelude.{Some, None}
 use Rattle.std.specs.List.{list_any}
 use Rattle.kb_catalog.specs.declared.version.Version.{Version}
 use Rattle.kb_catalog.specs.declared.version.Rules.{Rules}
@@ -13,8 +14,8 @@ use Rattle.kb_catalog.specs.declared.words.PhaseType.{PhaseType}
 use Rattle.kb_catalog.specs.Products.{has_product}
 use Rattle.kb_catalog.specs.Lists.{has_list}
 
--- what a case asks, whatever it gives: of the plan that governs or is looked at, of the kind of its phase, and, where a
--- change is decided, of the plan asked for
+-- what a case asks, whatever it gives: of the plan that governs or is looked at, of the kind of its phase,
+-- and, where a change is decided, of the plan asked for
 pub record Asks : Type 0 where
   pub from : PlanCondition
   pub phase : Option PhaseType
@@ -38,7 +39,8 @@ asks_of_billing case = record { from = case.plan; phase = case.phase; to = None 
 
 -- a plan condition asks nothing
 abbrev pub asks_nothing : PlanCondition → Bool
-asks_nothing condition = is_none condition.product && is_none condition.category && is_none condition.period && is_none condition.list
+asks_nothing condition = is_none condition.product && is_none condition.category && is_none condition.period
+    && is_none condition.list
 
 -- nothing is asked of the plan asked for
 abbrev pub asks_nothing_to : Option PlanCondition → Bool
@@ -56,7 +58,8 @@ misses there (Some name) = not (there name)
 
 -- a plan condition names a product or a list that isn't there
 abbrev pub names_wrongly : Version → PlanCondition → Bool
-names_wrongly version condition = misses (has_product version) condition.product || misses (has_list version) condition.list
+names_wrongly version condition = misses (has_product version) condition.product
+    || misses (has_list version) condition.list
 
 -- the condition on the plan asked for names such a one
 abbrev pub names_wrongly_to : Version → Option PlanCondition → Bool
@@ -75,11 +78,14 @@ ends_open asks (case ∷ next ∷ later) = ends_open asks (next ∷ later)
 
 -- a rule list is empty, its last case has a condition, or a case names a product or list that isn't there
 abbrev pub decides_wrongly : {A : Type 0} → Version → (A → Asks) → List A → Bool
-decides_wrongly version asks cases = not (ends_open asks cases) || list_any (λ case. case_names_wrongly version (asks case)) cases
+decides_wrongly version asks cases = not (ends_open asks cases)
+    || list_any (λ case. case_names_wrongly version (asks case)) cases
 
 -- each rule list has a case, and its last one has no condition
 abbrev pub EndOpen : Rules → Type 0
 EndOpen rules =
-    (ends_open asks_of_change_policy rules.change_policy ≡ true) × (ends_open asks_of_change_alignment rules.change_alignment ≡ true)
-    × (ends_open asks_of_cancel rules.cancel_policy ≡ true) × (ends_open asks_of_create rules.create_alignment ≡ true)
+    (ends_open asks_of_change_policy rules.change_policy ≡ true)
+    × (ends_open asks_of_change_alignment rules.change_alignment ≡ true)
+    × (ends_open asks_of_cancel rules.cancel_policy ≡ true)
+    × (ends_open asks_of_create rules.create_alignment ≡ true)
     × (ends_open asks_of_billing rules.billing_alignment ≡ true)

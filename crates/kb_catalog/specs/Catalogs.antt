@@ -8,8 +8,8 @@ use Rattle.kb_catalog.specs.VersionRules.{IsValid}
 abbrev pub max_versions : ℕ
 max_versions = 64
 
--- what always holds of a catalog: each version's date lies before those of the later ones, there are not too many, and
--- each is valid
+-- what always holds of a catalog: each version's date lies before those of the later ones, there are not too
+-- many, and each is valid
 pub record IsCatalog (versions : List Version) : Type 0 where
   pub rising : AllPairs (λ (earlier later : Version). earlier.effective < later.effective) versions
   pub limit : length versions ≤ max_versions
@@ -17,19 +17,23 @@ pub record IsCatalog (versions : List Version) : Type 0 where
 
 -- a version's date isn't after that of the last version, where there is one
 abbrev pub IsEarly : List Version → Version → Type 0
-IsEarly versions version = IsSomeAnd (slice_get versions (length versions - 1)) (λ (last : Version). version.effective ≤ last.effective)
+IsEarly versions version = IsSomeAnd (slice_get versions (length versions - 1))
+    (λ (last : Version). version.effective ≤ last.effective)
 
 -- a version's date is after that of the last version, or there is none
 abbrev pub IsLater : List Version → Version → Type 0
-IsLater versions version = IfSome (slice_get versions (length versions - 1)) (λ (last : Version). last.effective < version.effective)
+IsLater versions version = IfSome (slice_get versions (length versions - 1))
+    (λ (last : Version). last.effective < version.effective)
 
 -- the version at a place is the last one whose date is on or before a day
 pub record IsLatest (versions : List Version) (day place : ℕ) : Type 0 where
   pub version : Version
   pub here : slice_get versions place ≡ Some version
   pub begun : version.effective ≤ day
-  pub later : (other : ℕ) (next : Version) → place < other → slice_get versions other ≡ Some next → day < next.effective
+  pub later : (other : ℕ) (next : Version) → place < other → slice_get versions other ≡ Some next
+      → day < next.effective
 
 -- no version's date is on or before a day
 abbrev pub NoneBegun : List Version → ℕ → Type 0
-NoneBegun versions day = (place : ℕ) (version : Version) → slice_get versions place ≡ Some version → day < version.effective
+NoneBegun versions day = (place : ℕ) (version : Version) → slice_get versions place ≡ Some version
+    → day < version.effective

@@ -14,17 +14,20 @@ agree plan other = bytes_eq plan.product other.product && same_period (plan_peri
 
 -- a plan agrees with one of some names
 abbrev pub agrees_with_one : Version → Plan → List (List ℕ) → Bool
-agrees_with_one version plan names = list_any (λ (other : Plan). agree plan other && has_name names other.name) version.plans
+agrees_with_one version plan names = list_any (λ (other : Plan). agree plan other
+    && has_name names other.name) version.plans
 
 -- two of the plans that are named agree
 abbrev pub has_agreeing : Version → List (List ℕ) → Bool
 has_agreeing version [] = false
 has_agreeing version (name ∷ later) =
-    list_any (λ (plan : Plan). bytes_eq name plan.name && agrees_with_one version plan later) version.plans || has_agreeing version later
+    list_any (λ (plan : Plan). bytes_eq name plan.name && agrees_with_one version plan later) version.plans
+    || has_agreeing version later
 
 -- a price list names a plan that isn't there, or two that agree
 abbrev pub sells_wrongly : Version → PriceList → Bool
-sells_wrongly version list = list_any (λ name. not (has_plan version name)) list.plans || has_agreeing version list.plans
+sells_wrongly version list = list_any (λ name. not (has_plan version name)) list.plans
+    || has_agreeing version list.plans
 
 -- a price list of this name is there
 abbrev pub has_list : Version → List ℕ → Bool

@@ -1,5 +1,6 @@
 -- What billing asks of a catalog.
-use Rattle.std.specs.Prelude.{ℕ, ◌+◌, Bool, true, false, ◌&&◌, bytes_eq, nat_le, List, [], ◌∷◌, find, Option, Some, None, option_map}
+use Rattle.std.specs.Prelude.{ℕ, ◌+◌, Bool, true, false, ◌&&◌, bytes_eq, nat_le, List, [], ◌∷◌, find, Option}
+use Rattle.std.specs.Prelude.{Some, None, option_map}
 use Rattle.std.specs.List.{position_from}
 use Rattle.kb_days.specs.declared.period.Period.{Period}
 use Rattle.kb_catalog.specs.declared.version.Version.{Version}
@@ -16,12 +17,14 @@ use Rattle.kb_catalog.specs.declared.ask.ChangeAsk.{ChangeAsk}
 use Rattle.kb_catalog.specs.Words.{same_category, same_phase, same_period}
 use Rattle.kb_catalog.specs.Products.{has_name}
 use Rattle.kb_catalog.specs.Plans.{plan_period}
-use Rattle.kb_catalog.specs.Cases.{Asks, asks_of_change_policy, asks_of_change_alignment, asks_of_cancel, asks_of_create, asks_of_billing}
+use Rattle.kb_catalog.specs.Cases.{Asks, asks_of_change_policy, asks_of_change_alignment, asks_of_cancel}
+use Rattle.kb_catalog.specs.Cases.{asks_of_create, asks_of_billing}
 
 -- the place of the last version that is effective on or before a day
 abbrev pub version_at_from : ℕ → List Version → ℕ → Option ℕ
 version_at_from place [] day = None
-version_at_from place (version ∷ later) day = latest (version_at_from (place + 1) later day) (nat_le version.effective day) place
+version_at_from place (version ∷ later) day = latest (version_at_from (place + 1) later day)
+    (nat_le version.effective day) place
   where
     latest : Option ℕ → Bool → ℕ → Option ℕ
     latest (Some after) effective here = Some after
@@ -51,8 +54,8 @@ both_places None plan = None
 both_places (Some list) None = None
 both_places (Some list) (Some plan) = Some (list, plan)
 
--- the places of a list and of a plan that it sells for a product and a billing period, where there is one; no other
--- list is looked in
+-- the places of a list and of a plan that it sells for a product and a billing period, where there is one; no
+-- other list is looked in
 abbrev pub plan_at : Version → List ℕ → Period → List ℕ → Option (ℕ × ℕ)
 plan_at version product period list =
     both_places (position_from (λ (other : PriceList). bytes_eq list other.name) 0 version.lists)
@@ -79,7 +82,8 @@ holds_to (Some condition) ask = holds_of condition ask
 abbrev pub fits : PlanAsk → PlanAsk → Asks → Bool
 fits from to asks = holds_of asks.from from && holds same_phase asks.phase from.phase && holds_to asks.to to
 
--- a case of each kind fits what it is asked about; where no change is decided, no condition looks at a plan asked for
+-- a case of each kind fits what it is asked about; where no change is decided, no condition looks at a plan
+-- asked for
 abbrev pub fits_change_policy : ChangeAsk → ChangePolicyCase → Bool
 fits_change_policy change = λ case. fits change.from change.to (asks_of_change_policy case)
 

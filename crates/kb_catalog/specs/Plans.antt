@@ -1,10 +1,13 @@
 -- The plans of a version, their phases and prices.
-use Rattle.std.specs.Prelude.{ℕ, Bool, true, false, not, ◌&&◌, ◌||◌, bytes_eq, List, [], ◌∷◌, find, Option, option_map}
+use Rattle.std.specs.Prelude.{ℕ, Bool, true, false, not, ◌&&◌, ◌||◌, bytes_eq, List, [], ◌∷◌, find, Option}
+use Rattle.std.specs.Prelude.{option_map}
 use Rattle.std.specs.List.{list_any}
 use Rattle.kb_days.specs.declared.span.Span.{Span}
 use Rattle.kb_days.specs.declared.span.Span.TheVariants.{Days, Weeks, Months, Years, Unlimited}
 use Rattle.kb_days.specs.declared.period.Period.{Period}
-use Rattle.kb_days.specs.declared.period.Period.TheVariants.{Daily, Weekly, Biweekly, ThirtyDays, Monthly, Quarterly, Biannual, Annual, Biennial, NoBillingPeriod}
+use Rattle.kb_days.specs.declared.period.Period.TheVariants.{Daily, Weekly, Biweekly, ThirtyDays, Monthly}
+use Rattle.kb_days.specs.declared.period.Period.TheVariants.{Quarterly, Biannual, Annual, Biennial}
+use Rattle.kb_days.specs.declared.period.Period.TheVariants.{NoBillingPeriod}
 use Rattle.kb_catalog.specs.declared.version.Version.{Version}
 use Rattle.kb_catalog.specs.declared.version.Plan.{Plan}
 use Rattle.kb_catalog.specs.declared.version.Phase.{Phase}
@@ -60,25 +63,30 @@ is_no_period NoBillingPeriod = true
 -- a phase has a recurring price and no billing period, or a billing period and no recurring price
 abbrev pub bills_wrongly : Phase → Bool
 bills_wrongly phase =
-    (is_no_period phase.period && not (is_empty phase.recurring)) || (not (is_no_period phase.period) && is_empty phase.recurring)
+    (is_no_period phase.period && not (is_empty phase.recurring))
+    || (not (is_no_period phase.period) && is_empty phase.recurring)
 
 -- the price in a currency, where there is one
 abbrev pub price_in : List ℕ → List Price → Option ℕ
-price_in currency prices = option_map (λ (price : Price). price.amount) (find (λ (price : Price). bytes_eq currency price.currency) prices)
+price_in currency prices = option_map (λ (price : Price). price.amount)
+    (find (λ (price : Price). bytes_eq currency price.currency) prices)
 
 -- some prices name a currency twice
 abbrev pub has_repeat : List Price → Bool
 has_repeat [] = false
-has_repeat (price ∷ later) = list_any (λ (other : Price). bytes_eq price.currency other.currency) later || has_repeat later
+has_repeat (price ∷ later) = list_any (λ (other : Price). bytes_eq price.currency other.currency) later
+    || has_repeat later
 
 -- some prices name a currency that isn't among these, or one twice
 abbrev pub prices_wrongly : List (List ℕ) → List Price → Bool
 prices_wrongly currencies prices =
-    list_any (λ (price : Price). not (list_any (bytes_eq price.currency) currencies)) prices || has_repeat prices
+    list_any (λ (price : Price). not (list_any (bytes_eq price.currency) currencies)) prices
+    || has_repeat prices
 
 -- a phase has such prices
 abbrev pub phase_prices_wrongly : List (List ℕ) → Phase → Bool
-phase_prices_wrongly currencies phase = prices_wrongly currencies phase.fixed || prices_wrongly currencies phase.recurring
+phase_prices_wrongly currencies phase = prices_wrongly currencies phase.fixed
+    || prices_wrongly currencies phase.recurring
 
 -- a plan of this name is there
 abbrev pub has_plan : Version → List ℕ → Bool

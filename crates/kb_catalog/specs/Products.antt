@@ -1,5 +1,6 @@
 -- The products of a version.
-use Rattle.std.specs.Prelude.{ℕ, Bool, true, false, not, ◌&&◌, ◌||◌, bytes_eq, List, [], ◌∷◌, ◌++◌, find, Option}
+use Rattle.std.specs.Prelude.{ℕ, Bool, true, false, not, ◌&&◌, ◌||◌, bytes_eq, List, [], ◌∷◌, ◌++◌, find}
+use Rattle.std.specs.Prelude.{Option}
 use Rattle.std.specs.List.{list_any}
 use Rattle.kb_catalog.specs.declared.version.Version.{Version}
 use Rattle.kb_catalog.specs.declared.version.Product.{Product}
@@ -35,7 +36,8 @@ is_add_on Standalone = false
 
 -- an add-on product of this name is there
 abbrev pub has_add_on : Version → List ℕ → Bool
-has_add_on version name = list_any (λ (product : Product). bytes_eq name product.name && is_add_on product.category) version.products
+has_add_on version name = list_any (λ (product : Product). bytes_eq name product.name
+    && is_add_on product.category) version.products
 
 -- the add-ons that a product lists, available and included ones
 abbrev pub listed : Product → List (List ℕ)

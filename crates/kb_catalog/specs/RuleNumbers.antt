@@ -1,7 +1,9 @@
 -- The numbers of the rules.
 use Rattle.std.specs.Prelude.{ℕ, ◌≡◌, [], ◌∷◌, map, refl}
 use Rattle.kb_catalog.specs.declared.rule.Rule.{Rule}
-use Rattle.kb_catalog.specs.declared.rule.Rule.TheVariants.{Currencies, ProductNames, AddOns, AddOnsOnce, PlanNames, PlanProducts, LastPhase, PhaseKinds, PhasePeriods, Prices, Lists, Cases}
+use Rattle.kb_catalog.specs.declared.rule.Rule.TheVariants.{Currencies, ProductNames, AddOns, AddOnsOnce}
+use Rattle.kb_catalog.specs.declared.rule.Rule.TheVariants.{PlanNames, PlanProducts, LastPhase, PhaseKinds}
+use Rattle.kb_catalog.specs.declared.rule.Rule.TheVariants.{PhasePeriods, Prices, Lists, Cases}
 use Rattle.kb_catalog.specs.VersionRules.{all_rules}
 
 -- the number of a rule

@@ -21,10 +21,12 @@ other_list : plan_at small (codes "Gold") Monthly (codes "SALE") ≡ None
 other_list = refl
 
 -- of versions from 2020-01-01 and from 2020-02-08 on, the later one is used from its own day on
-first_version : version_at (small ∷ record small { effective = february_2020 8 } ∷ []) (february_2020 7) ≡ Some 0
+first_version : version_at (small ∷ record small { effective = february_2020 8 } ∷ []) (february_2020 7)
+    ≡ Some 0
 first_version = refl
 
-second_version : version_at (small ∷ record small { effective = february_2020 8 } ∷ []) (february_2020 8) ≡ Some 1
+second_version : version_at (small ∷ record small { effective = february_2020 8 } ∷ []) (february_2020 8)
+    ≡ Some 1
 second_version = refl
 
 -- none is used on 2019-12-31
@@ -33,7 +35,14 @@ no_version = refl
 
 -- Gold by the month in its last phase, of a category that the version doesn't tell
 abbrev gold : PlanAsk
-gold = record { product = codes "Gold"; category = None; period = Monthly; list = codes "DEFAULT"; phase = Some Evergreen }
+gold = record {
+  product = codes "Gold";
+  category = None;
+  period = Monthly;
+  list = codes "DEFAULT";
+  phase =
+      Some Evergreen;
+}
 
 -- a trial ends at once, a base product never by a cancellation, and all else at the end of what is paid for
 abbrev cancel_cases : List CancelCase
@@ -46,8 +55,10 @@ cancel_cases =
 last_case : first_match (fits_cancel gold) (λ case. case.policy) cancel_cases ≡ Some EndOfTerm
 last_case = refl
 
-middle_case : first_match (fits_cancel (record gold { category = Some Base })) (λ case. case.policy) cancel_cases ≡ Some Illegal
+middle_case : first_match (fits_cancel (record gold { category = Some Base })) (λ case. case.policy)
+    cancel_cases ≡ Some Illegal
 middle_case = refl
 
-first_case : first_match (fits_cancel (record gold { phase = Some Trial; category = Some Base })) (λ case. case.policy) cancel_cases ≡ Some Immediate
+first_case : first_match (fits_cancel (record gold { phase = Some Trial; category = Some Base }))
+    (λ case. case.policy) cancel_cases ≡ Some Immediate
 first_case = refl

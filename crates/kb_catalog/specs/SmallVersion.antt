@@ -15,7 +15,9 @@ use Rattle.kb_catalog.specs.declared.words.Policy.TheVariants.{Immediate}
 use Rattle.kb_catalog.specs.declared.words.Align.TheVariants.{StartOfSubscription}
 use Rattle.kb_catalog.specs.declared.words.CreateAlign.TheVariants.{StartOfSubscription as FromSubscription}
 use Rattle.kb_catalog.specs.declared.words.BillingAlign.TheVariants.{Account}
-use Rattle.kb_catalog.specs.declared.rule.Rule.TheVariants.{Currencies, ProductNames, AddOns, AddOnsOnce, PlanNames, PlanProducts, LastPhase, PhaseKinds, PhasePeriods, Prices, Lists, Cases}
+use Rattle.kb_catalog.specs.declared.rule.Rule.TheVariants.{Currencies, ProductNames, AddOns, AddOnsOnce}
+use Rattle.kb_catalog.specs.declared.rule.Rule.TheVariants.{PlanNames, PlanProducts, LastPhase, PhaseKinds}
+use Rattle.kb_catalog.specs.declared.rule.Rule.TheVariants.{PhasePeriods, Prices, Lists, Cases}
 use Rattle.kb_catalog.specs.VersionRules.{fault_of}
 
 -- a base product with an add-on
@@ -48,7 +50,12 @@ no_condition = record { product = None; category = None; period = None; list = N
 abbrev open_rules : Rules
 open_rules = record {
   change_policy = record { from = no_condition; phase = None; to = no_condition; policy = Immediate } ∷ [];
-  change_alignment = record { from = no_condition; phase = None; to = no_condition; alignment = StartOfSubscription } ∷ [];
+  change_alignment = record {
+    from = no_condition;
+    phase = None;
+    to = no_condition;
+    alignment = StartOfSubscription;
+  } ∷ [];
   cancel_policy = record { plan = no_condition; phase = None; policy = Immediate } ∷ [];
   create_alignment = record { plan = no_condition; alignment = FromSubscription } ∷ [];
   billing_alignment = record { plan = no_condition; phase = None; alignment = Account } ∷ [];
@@ -71,43 +78,58 @@ sound = refl
 no_currency : fault_of (record small { currencies = [] }) ≡ Some (record { rule = Currencies; index = 0 })
 no_currency = refl
 
-name_again : fault_of (record small { products = help ∷ gold ∷ gold ∷ [] }) ≡ Some (record { rule = ProductNames; index = 2 })
+name_again : fault_of (record small { products = help ∷ gold ∷ gold ∷ [] })
+    ≡ Some (record { rule = ProductNames; index = 2 })
 name_again = refl
 
 add_on_missing : fault_of (record small { products = gold ∷ [] }) ≡ Some (record { rule = AddOns; index = 0 })
 add_on_missing = refl
 
-product_missing : fault_of (record small { products = help ∷ [] }) ≡ Some (record { rule = PlanProducts; index = 0 })
+product_missing : fault_of (record small { products = help ∷ [] })
+    ≡ Some (record { rule = PlanProducts; index = 0 })
 product_missing = refl
 
 no_default_list : fault_of (record small { lists = [] }) ≡ Some (record { rule = Lists; index = 0 })
 no_default_list = refl
 
-add_on_in_both_lists : fault_of (record small { products = record gold { included = codes "Help" ∷ [] } ∷ help ∷ [] }) ≡ Some (record { rule = AddOnsOnce; index = 0 })
+add_on_in_both_lists : fault_of (record small {
+  products =
+      record gold { included = codes "Help" ∷ [] } ∷ help ∷ [];
+}) ≡ Some (record { rule = AddOnsOnce; index = 0 })
 add_on_in_both_lists = refl
 
-plan_name_again : fault_of (record small { plans = gold_monthly ∷ gold_monthly ∷ [] }) ≡ Some (record { rule = PlanNames; index = 1 })
+plan_name_again : fault_of (record small { plans = gold_monthly ∷ gold_monthly ∷ [] })
+    ≡ Some (record { rule = PlanNames; index = 1 })
 plan_name_again = refl
 
 -- the small version with another phase in its plan
 abbrev with_phase : Phase → Version
 with_phase phase = record small { plans = record gold_monthly { phases = phase ∷ [] } ∷ [] }
 
-an_end : fault_of (with_phase (record monthly { span = Days 30 })) ≡ Some (record { rule = LastPhase; index = 0 })
+an_end : fault_of (with_phase (record monthly { span = Days 30 }))
+    ≡ Some (record { rule = LastPhase; index = 0 })
 an_end = refl
 
-trial_at_the_end : fault_of (with_phase (record monthly { kind = Trial })) ≡ Some (record { rule = PhaseKinds; index = 0 })
+trial_at_the_end : fault_of (with_phase (record monthly { kind = Trial }))
+    ≡ Some (record { rule = PhaseKinds; index = 0 })
 trial_at_the_end = refl
 
-period_without_a_price : fault_of (with_phase (record monthly { recurring = [] })) ≡ Some (record { rule = PhasePeriods; index = 0 })
+period_without_a_price : fault_of (with_phase (record monthly { recurring = [] }))
+    ≡ Some (record { rule = PhasePeriods; index = 0 })
 period_without_a_price = refl
 
-price_in_euros : fault_of (with_phase (record monthly { fixed = record { currency = codes "EUR"; amount = 5 } ∷ [] })) ≡ Some (record { rule = Prices; index = 0 })
+price_in_euros : fault_of (with_phase (record monthly
+    { fixed = record { currency = codes "EUR"; amount = 5 } ∷ [] }))
+    ≡ Some (record { rule = Prices; index = 0 })
 price_in_euros = refl
 
-plan_twice_in_a_list : fault_of (record small { lists = record { name = codes "DEFAULT"; plans = codes "gold-monthly" ∷ codes "gold-monthly" ∷ [] } ∷ [] })
+plan_twice_in_a_list : fault_of (record small {
+  lists =
+      record { name = codes "DEFAULT"; plans = codes "gold-monthly" ∷ codes "gold-monthly" ∷ [] } ∷ [];
+})
     ≡ Some (record { rule = Lists; index = 0 })
 plan_twice_in_a_list = refl
 
-no_cancel_policy : fault_of (record small { rules = record open_rules { cancel_policy = [] } }) ≡ Some (record { rule = Cases; index = 2 })
+no_cancel_policy : fault_of (record small { rules = record open_rules { cancel_policy = [] } })
+    ≡ Some (record { rule = Cases; index = 2 })
 no_cancel_policy = refl

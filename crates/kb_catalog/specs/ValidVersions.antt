@@ -1,5 +1,6 @@
 -- What holds of each valid version, in a reader's words.
-use Rattle.std.specs.Prelude.{ℕ, ◌≡◌, ◌++◌, List, [], ◌∷◌, true, false, bytes_eq, map, slice_get, Some, codes, refl}
+use Rattle.std.specs.Prelude.{ℕ, ◌≡◌, ◌++◌, List, [], ◌∷◌, true, false, bytes_eq, map, slice_get, Some, codes}
+use Rattle.std.specs.Prelude.{refl}
 use Rattle.std.specs.List.{IsDistinct, list_any}
 use Rattle.kb_days.specs.declared.period.Period.{Period}
 use Rattle.kb_days.specs.declared.period.Period.TheVariants.{Monthly}
@@ -33,7 +34,13 @@ pub record EndsUnlimited (phases : List Phase) : Type 0 where
 
 thirty_days_before : EndsUnlimited (record monthly { span = Days 30 } ∷ monthly ∷ [])
 thirty_days_before =
-    record { earlier = record monthly { span = Days 30 } ∷ []; last = monthly; all = refl; unlimited = refl; alone = refl }
+    record {
+      earlier = record monthly { span = Days 30 } ∷ [];
+      last = monthly;
+      all = refl;
+      unlimited = refl;
+      alone = refl;
+    }
 
 -- a price list sells a plan for a product and a billing period
 abbrev pub IsSold : Version → List ℕ → Period → List ℕ → Plan → Type 0
@@ -43,7 +50,8 @@ gold_by_the_month : IsSold small (codes "Gold") Monthly (codes "DEFAULT") gold_m
 gold_by_the_month = refl
 
 -- the plan at a place is sold so, and no other one
-pub record IsOnlyPlan (version : Version) (product : List ℕ) (period : Period) (list : List ℕ) (place : ℕ) : Type 0 where
+pub record IsOnlyPlan (version : Version) (product : List ℕ) (period : Period) (list : List ℕ) (place : ℕ) :
+    Type 0 where
   pub plan : Plan
   pub here : slice_get version.plans place ≡ Some plan
   pub sold : IsSold version product period list plan

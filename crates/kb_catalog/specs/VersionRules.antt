@@ -1,20 +1,25 @@
 -- The twelve rules of a version: where each is broken, and the first that is.
-use Rattle.std.specs.Prelude.{ℕ, ◌+◌, ◌≡◌, Bool, not, ◌&&◌, ◌||◌, ◌==◌, bytes_eq, List, [], ◌∷◌, length, Option, Some, None, max, ◌<◌, ◌^◌, All}
+use Rattle.std.specs.Prelude.{ℕ, ◌+◌, ◌≡◌, Bool, not, ◌&&◌, ◌||◌, ◌==◌, bytes_eq, List, [], ◌∷◌, length}
+use Rattle.std.specs.Prelude.{Option, Some, None, max, ◌<◌, ◌^◌, All}
 use Rattle.std.specs.List.{list_any}
 use Rattle.kb_catalog.specs.declared.version.Version.{Version}
 use Rattle.kb_catalog.specs.declared.version.Product.{Product}
 use Rattle.kb_catalog.specs.declared.version.Plan.{Plan}
 use Rattle.kb_catalog.specs.declared.version.PriceList.{PriceList}
 use Rattle.kb_catalog.specs.declared.rule.Rule.{Rule}
-use Rattle.kb_catalog.specs.declared.rule.Rule.TheVariants.{Currencies, ProductNames, AddOns, AddOnsOnce, PlanNames, PlanProducts, LastPhase, PhaseKinds, PhasePeriods, Prices, Lists, Cases}
+use Rattle.kb_catalog.specs.declared.rule.Rule.TheVariants.{Currencies, ProductNames, AddOns, AddOnsOnce}
+use Rattle.kb_catalog.specs.declared.rule.Rule.TheVariants.{PlanNames, PlanProducts, LastPhase, PhaseKinds}
+use Rattle.kb_catalog.specs.declared.rule.Rule.TheVariants.{PhasePeriods, Prices, Lists, Cases}
 use Rattle.kb_catalog.specs.declared.rule.CatalogFault.{CatalogFault}
 use Rattle.kb_base.specs.Offenders.{first_place, passes_at, repeats_at}
 use Rattle.kb_catalog.specs.Products.{is_empty, has_product, lists_wrongly, lists_twice}
 use Rattle.kb_catalog.specs.Plans.{ends_unlimited, kinds_fit, bills_wrongly, phase_prices_wrongly}
 use Rattle.kb_catalog.specs.Lists.{sells_wrongly, has_list, default_list}
-use Rattle.kb_catalog.specs.Cases.{decides_wrongly, asks_of_change_policy, asks_of_change_alignment, asks_of_cancel, asks_of_create, asks_of_billing}
+use Rattle.kb_catalog.specs.Cases.{decides_wrongly, asks_of_change_policy, asks_of_change_alignment}
+use Rattle.kb_catalog.specs.Cases.{asks_of_cancel, asks_of_create, asks_of_billing}
 
--- whether the rule list at a place is wrong: change policy, change alignment, cancel policy, create alignment, billing alignment
+-- whether the rule list at a place is wrong: change policy, change alignment, cancel policy, create
+-- alignment, billing alignment
 abbrev pub rule_list_wrong : Version → ℕ → Bool
 rule_list_wrong version place =
     (place == 0 && decides_wrongly version asks_of_change_policy version.rules.change_policy)
@@ -26,7 +31,8 @@ rule_list_wrong version place =
 -- where a rule is broken
 abbrev pub is_broken_at : Version → Rule → ℕ → Bool
 -- there is no currency, or the currency stands earlier
-is_broken_at version Currencies place = is_empty version.currencies || repeats_at bytes_eq version.currencies place
+is_broken_at version Currencies place = is_empty version.currencies
+    || repeats_at bytes_eq version.currencies place
 -- the product's name stands earlier
 is_broken_at version ProductNames place =
     repeats_at (λ (a : Product) (b : Product). bytes_eq a.name b.name) version.products place
@@ -35,20 +41,26 @@ is_broken_at version AddOns place = passes_at version.products place (lists_wron
 -- a name is both available and included in the product
 is_broken_at version AddOnsOnce place = passes_at version.products place lists_twice
 -- the plan's name stands earlier
-is_broken_at version PlanNames place = repeats_at (λ (a : Plan) (b : Plan). bytes_eq a.name b.name) version.plans place
+is_broken_at version PlanNames place = repeats_at (λ (a : Plan) (b : Plan). bytes_eq a.name b.name)
+    version.plans place
 -- the plan's product isn't there
-is_broken_at version PlanProducts place = passes_at version.plans place (λ (plan : Plan). not (has_product version plan.product))
+is_broken_at version PlanProducts place = passes_at version.plans place
+    (λ (plan : Plan). not (has_product version plan.product))
 -- the plan has no phase, its last phase isn't unlimited, or another one is
-is_broken_at version LastPhase place = passes_at version.plans place (λ (plan : Plan). not (ends_unlimited plan.phases))
+is_broken_at version LastPhase place = passes_at version.plans place
+    (λ (plan : Plan). not (ends_unlimited plan.phases))
 -- an evergreen phase isn't last, or the last phase is a trial or a discount
-is_broken_at version PhaseKinds place = passes_at version.plans place (λ (plan : Plan). not (kinds_fit plan.phases))
+is_broken_at version PhaseKinds place = passes_at version.plans place
+    (λ (plan : Plan). not (kinds_fit plan.phases))
 -- a phase has a recurring price and no billing period, or a billing period and no recurring price
-is_broken_at version PhasePeriods place = passes_at version.plans place (λ (plan : Plan). list_any bills_wrongly plan.phases)
+is_broken_at version PhasePeriods place = passes_at version.plans place
+    (λ (plan : Plan). list_any bills_wrongly plan.phases)
 -- a price names a currency that isn't among the version's, or one twice
 is_broken_at version Prices place =
-    passes_at version.plans place (λ (plan : Plan). list_any (phase_prices_wrongly version.currencies) plan.phases)
--- the list's name stands earlier, it names a plan that isn't there, or two of its plans agree in product and billing
--- period; behind the last list: no list is named DEFAULT
+    passes_at version.plans place (λ (plan : Plan). list_any (phase_prices_wrongly version.currencies)
+    plan.phases)
+-- the list's name stands earlier, it names a plan that isn't there, or two of its plans agree in product and
+-- billing period; behind the last list: no list is named DEFAULT
 is_broken_at version Lists place =
     repeats_at (λ (a : PriceList) (b : PriceList). bytes_eq a.name b.name) version.lists place
     || passes_at version.lists place (sells_wrongly version)
@@ -82,7 +94,8 @@ Holds version rule = first_offender version rule ≡ None
 -- the rules in their order
 abbrev pub all_rules : List Rule
 all_rules =
-    Currencies ∷ ProductNames ∷ AddOns ∷ AddOnsOnce ∷ PlanNames ∷ PlanProducts ∷ LastPhase ∷ PhaseKinds ∷ PhasePeriods ∷ Prices ∷ Lists ∷ Cases ∷ []
+    Currencies ∷ ProductNames ∷ AddOns ∷ AddOnsOnce ∷ PlanNames ∷ PlanProducts ∷ LastPhase ∷ PhaseKinds
+    ∷ PhasePeriods ∷ Prices ∷ Lists ∷ Cases ∷ []
 
 -- the fault of some rules: the first that is broken, and its first offender
 abbrev pub fault_among : Version → List Rule → Option CatalogFault

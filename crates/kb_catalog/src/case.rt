@@ -2,7 +2,8 @@
 ghost use Rattle.std.specs.Prelude.{◌≡◌, ◌&&◌, Bool, true, Some, bytes_eq, find};
 ghost use Rattle.std.specs.Option.{option_copied};
 ghost use Rattle.kb_catalog.specs.Words.{same_category, same_phase, same_period};
-ghost use Rattle.kb_catalog.specs.Cases.{Asks, ends_open, asks_of_change_policy, asks_of_change_alignment, asks_of_cancel, asks_of_create, asks_of_billing};
+ghost use Rattle.kb_catalog.specs.Cases.{Asks, ends_open, asks_of_change_policy, asks_of_change_alignment};
+ghost use Rattle.kb_catalog.specs.Cases.{asks_of_cancel, asks_of_create, asks_of_billing};
 ghost use Rattle.kb_catalog.specs.LookUp.{holds, holds_of, holds_to, fits};
 
 use crate::{
@@ -121,7 +122,8 @@ pub(crate) fn decide<'a, C: Case>(cases: &'a [C], from: &PlanAsk, to: &PlanAsk) 
     unreachable!()
 }
 
-/// Whether all conditions of a case hold: of the plan that governs or is looked at, of its phase, and of the plan asked for.
+/// Whether all conditions of a case hold: of the plan that governs or is looked at, of its phase, and of the
+/// plan asked for.
 fn fits<C: Case>(case: &C, from: &PlanAsk, to: &PlanAsk) -> bool
     ensures { result ≡ fits from.now to.now (C.asks case.now) }
 {

@@ -1,5 +1,6 @@
 //! Catalogs: the versions of what a shop sells, each from its date on.
-ghost use Rattle.std.specs.Prelude.{◌≡◌, ◌<◌, ◌≤◌, ◌-◌, ◌↔◌, ◌++◌, ◌∷◌, [], length, map, nat_le, slice_get, MatchOption, Some, Err, IfOk, IfErr};
+ghost use Rattle.std.specs.Prelude.{◌≡◌, ◌<◌, ◌≤◌, ◌-◌, ◌↔◌, ◌++◌, ◌∷◌, [], length, map, nat_le, slice_get};
+ghost use Rattle.std.specs.Prelude.{MatchOption, Some, Err, IfOk, IfErr};
 ghost use Rattle.std.specs.Bool.{MatchBool};
 ghost use Rattle.std.specs.Option.{option_copied};
 ghost use Rattle.std.specs.Arc.{arc_value};
@@ -17,7 +18,8 @@ use thiserror::Error;
 /// The most versions that a catalog has.
 pub const MAX_VERSIONS: u32 = 64;
 
-/// A catalog: valid versions by rising date, at most `MAX_VERSIONS`. An added version shares the earlier ones.
+/// A catalog: valid versions by rising date, at most `MAX_VERSIONS`. An added version shares the earlier
+/// ones.
 #[derive(Debug, Drop)]
 pub struct Catalog {
     versions: Vec<Arc<Valid>>,

@@ -27,8 +27,8 @@ impl Model for Valid {
 }
 
 impl Version {
-    /// Whether the lists of currencies, products, plans and price lists have each fewer than 2^32 members, and so have
-    /// the phases of each plan, so that a `u32` numbers their places.
+    /// Whether the lists of currencies, products, plans and price lists have each fewer than 2^32 members,
+    /// and so have the phases of each plan, so that a `u32` numbers their places.
     pub fn has_counts(&self) -> bool
         ensures { IsTrue result ↔ HasCounts self.now }
     {

@@ -1,5 +1,6 @@
 -- The text of a catalog: its tables with their keys, read in order, and the first fault.
-use Rattle.std.specs.Prelude.{ℕ, Bool, true, false, bytes_eq, List, [], ◌∷◌, ◌++◌, codes, if◌then◌else◌, Option, Some, None, Ok}
+use Rattle.std.specs.Prelude.{ℕ, Bool, true, false, bytes_eq, List, [], ◌∷◌, ◌++◌, codes, if◌then◌else◌}
+use Rattle.std.specs.Prelude.{Option, Some, None, Ok}
 use Rattle.toml.specs.Data.{Data, Members, no_members, member, get_member, as_str}
 use Rattle.kb_days.specs.declared.period.Period.TheVariants.{NoBillingPeriod}
 use Rattle.kb_days.specs.declared.span.Span.{Span}
@@ -20,8 +21,10 @@ use Rattle.kb_catalog.specs.declared.version.CreateCase.{CreateCase}
 use Rattle.kb_catalog.specs.declared.version.BillingCase.{BillingCase}
 use Rattle.kb_catalog_text.specs.declared.span_unit.SpanUnit.{SpanUnit}
 use Rattle.kb_catalog_text.specs.declared.span_unit.SpanUnit.TheVariants as unit
-use Rattle.kb_catalog_text.specs.Reads.{Read, and_then, keys_read, is_among, read_as, required, optional, read_or, read_table, read_array}
-use Rattle.kb_catalog_text.specs.Words.{period_words, category_words, phase_words, unit_words, policy_words, create_align_words, align_words, billing_align_words}
+use Rattle.kb_catalog_text.specs.Reads.{Read, and_then, keys_read, is_among, read_as, required, optional}
+use Rattle.kb_catalog_text.specs.Reads.{read_or, read_table, read_array}
+use Rattle.kb_catalog_text.specs.Words.{period_words, category_words, phase_words, unit_words, policy_words}
+use Rattle.kb_catalog_text.specs.Words.{create_align_words, align_words, billing_align_words}
 use Rattle.kb_catalog_text.specs.Kinds.{name_in, currency_in, day_in, word_in, count_in, amount_in, format_in}
 
 -- a product
@@ -66,7 +69,8 @@ is_unlimited_in members = of_value (get_member (codes "unit") members)
 
 abbrev pub phase_keys : Bool → List (List ℕ)
 phase_keys true = codes "type" ∷ codes "unit" ∷ codes "fixed" ∷ codes "period" ∷ codes "recurring" ∷ []
-phase_keys false = codes "type" ∷ codes "unit" ∷ codes "length" ∷ codes "fixed" ∷ codes "period" ∷ codes "recurring" ∷ []
+phase_keys false = codes "type" ∷ codes "unit" ∷ codes "length" ∷ codes "fixed" ∷ codes "period"
+    ∷ codes "recurring" ∷ []
 
 -- a unit is counted
 abbrev pub is_counted : SpanUnit → Bool
@@ -87,11 +91,13 @@ span_of unit.Unlimited count = span.Unlimited
 -- how long a phase is
 unfoldable pub length_in : SpanUnit → Members → Read Span
 length_in unit members =
-    if is_counted unit then and_then (required (read_as count_in) (codes "length") members) (λ count. Ok (span_of unit count))
+    if is_counted unit then and_then (required (read_as count_in) (codes "length") members)
+    (λ count. Ok (span_of unit count))
     else Ok span.Unlimited
 
 unfoldable pub span_in : Members → Read Span
-span_in members = and_then (required (read_as (word_in unit_words)) (codes "unit") members) (λ unit. length_in unit members)
+span_in members = and_then (required (read_as (word_in unit_words)) (codes "unit") members)
+    (λ unit. length_in unit members)
 
 -- a phase
 unfoldable pub phase_in : Members → Read Phase
@@ -136,15 +142,19 @@ condition_in product_key category_key period_key list_key members =
     and_then (optional (read_as name_in) list_key members) (λ list.
     Ok (record { product = product; category = category; period = period; list = list })))))
 
--- the conditions on the plan that is looked at, on the one that governs before a change, and on the one asked for
+-- the conditions on the plan that is looked at, on the one that governs before a change, and on the one asked
+-- for
 abbrev pub plan_conditions_in : Members → Read PlanCondition
-plan_conditions_in members = condition_in (codes "product") (codes "category") (codes "period") (codes "list") members
+plan_conditions_in members = condition_in (codes "product") (codes "category") (codes "period") (codes "list")
+    members
 
 abbrev pub from_conditions_in : Members → Read PlanCondition
-from_conditions_in members = condition_in (codes "from_product") (codes "from_category") (codes "from_period") (codes "from_list") members
+from_conditions_in members = condition_in (codes "from_product") (codes "from_category") (codes "from_period")
+    (codes "from_list") members
 
 abbrev pub to_conditions_in : Members → Read PlanCondition
-to_conditions_in members = condition_in (codes "to_product") (codes "to_category") (codes "to_period") (codes "to_list") members
+to_conditions_in members = condition_in (codes "to_product") (codes "to_category") (codes "to_period")
+    (codes "to_list") members
 
 -- the cases of the five rule lists
 abbrev pub change_keys : List (List ℕ)
@@ -190,7 +200,8 @@ create_in members =
 
 unfoldable pub billing_in : Members → Read BillingCase
 billing_in members =
-    and_then (keys_read (is_among (plan_keys_of_case ++ codes "phase" ∷ codes "alignment" ∷ [])) members) (λ _.
+    and_then (keys_read (is_among (plan_keys_of_case ++ codes "phase" ∷ codes "alignment" ∷ [])) members)
+    (λ _.
     and_then (plan_conditions_in members) (λ plan.
     and_then (optional (read_as (word_in phase_words)) (codes "phase") members) (λ phase.
     and_then (required (read_as (word_in billing_align_words)) (codes "alignment") members) (λ alignment.
@@ -198,16 +209,21 @@ billing_in members =
 
 -- the rules
 abbrev pub rules_keys : List (List ℕ)
-rules_keys = codes "change_policy" ∷ codes "change_alignment" ∷ codes "cancel_policy" ∷ codes "create_alignment" ∷ codes "billing_alignment" ∷ []
+rules_keys = codes "change_policy" ∷ codes "change_alignment" ∷ codes "cancel_policy"
+    ∷ codes "create_alignment" ∷ codes "billing_alignment" ∷ []
 
 unfoldable pub rules_in : Members → Read Rules
 rules_in members =
     and_then (keys_read (is_among rules_keys) members) (λ _.
-    and_then (required (read_array (read_table change_policy_in)) (codes "change_policy") members) (λ change_policy.
-    and_then (required (read_array (read_table change_alignment_in)) (codes "change_alignment") members) (λ change_alignment.
+    and_then (required (read_array (read_table change_policy_in)) (codes "change_policy") members)
+    (λ change_policy.
+    and_then (required (read_array (read_table change_alignment_in)) (codes "change_alignment") members)
+    (λ change_alignment.
     and_then (required (read_array (read_table cancel_in)) (codes "cancel_policy") members) (λ cancel_policy.
-    and_then (required (read_array (read_table create_in)) (codes "create_alignment") members) (λ create_alignment.
-    and_then (required (read_array (read_table billing_in)) (codes "billing_alignment") members) (λ billing_alignment.
+    and_then (required (read_array (read_table create_in)) (codes "create_alignment") members)
+    (λ create_alignment.
+    and_then (required (read_array (read_table billing_in)) (codes "billing_alignment") members)
+    (λ billing_alignment.
     Ok (record {
       change_policy = change_policy;
       change_alignment = change_alignment;
@@ -219,7 +235,8 @@ rules_in members =
 -- the whole document
 abbrev pub top_keys : List (List ℕ)
 top_keys =
-    codes "format" ∷ codes "effective" ∷ codes "currencies" ∷ codes "product" ∷ codes "plan" ∷ codes "list" ∷ codes "rules" ∷ []
+    codes "format" ∷ codes "effective" ∷ codes "currencies" ∷ codes "product" ∷ codes "plan" ∷ codes "list"
+    ∷ codes "rules" ∷ []
 
 unfoldable pub version_in : Members → Read Version
 version_in members =

@@ -1,5 +1,6 @@
 -- The kinds of values that a text has at its keys.
-use Rattle.std.specs.Prelude.{ℕ, ◌≡◌, Bool, ◌&&◌, ◌==◌, nat_le, ℤ, pos, negsuc, List, codes, if◌then◌else◌, Option, Some, None, option_and_then, refl}
+use Rattle.std.specs.Prelude.{ℕ, ◌≡◌, Bool, ◌&&◌, ◌==◌, nat_le, ℤ, pos, negsuc, List, codes, if◌then◌else◌}
+use Rattle.std.specs.Prelude.{Option, Some, None, option_and_then, refl}
 use Rattle.toml.specs.Data.{Data, string, integer, as_str, as_integer}
 use Rattle.kb_days.specs.Names.{is_name}
 use Rattle.kb_days.specs.DateText.{read_day}
@@ -36,7 +37,8 @@ natural (negsuc number) = None
 
 -- a number from one to another
 unfoldable pub number_in : ℕ → ℕ → Data → Option ℕ
-number_in low high value = option_and_then (λ number. if nat_le low number && nat_le number high then Some number else None) (option_and_then natural (as_integer value))
+number_in low high value = option_and_then (λ number. if nat_le low number && nat_le number high
+    then Some number else None) (option_and_then natural (as_integer value))
 
 -- how many units a span has
 unfoldable pub count_in : Data → Option ℕ

@@ -2,13 +2,15 @@
 use Rattle.std.specs.Prelude.{ℕ, List, [], ◌∷◌, codes, Ok}
 use Rattle.toml.specs.Data.{Members, as_bool}
 use Rattle.kb_overdue.specs.declared.state.OverdueState.{OverdueState}
-use Rattle.kb_catalog_text.specs.Reads.{Read, and_then, keys_read, is_among, read_as, required, optional, read_or, read_table, read_array}
+use Rattle.kb_catalog_text.specs.Reads.{Read, and_then, keys_read, is_among, read_as, required, optional}
+use Rattle.kb_catalog_text.specs.Reads.{read_or, read_table, read_array}
 use Rattle.kb_catalog_text.specs.Kinds.{name_in, threshold_in}
 
 -- a state
 abbrev pub state_keys : List (List ℕ)
 state_keys =
-    codes "name" ∷ codes "days" ∷ codes "count" ∷ codes "total" ∷ codes "block_change" ∷ codes "block_entitlement" ∷ codes "block_billing" ∷ []
+    codes "name" ∷ codes "days" ∷ codes "count" ∷ codes "total" ∷ codes "block_change"
+    ∷ codes "block_entitlement" ∷ codes "block_billing" ∷ []
 
 unfoldable pub state_in : Members → Read OverdueState
 state_in members =

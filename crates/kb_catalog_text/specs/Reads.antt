@@ -1,8 +1,10 @@
 -- How a table of a text is read, key by key: as a value, or as the first fault.
-use Rattle.std.specs.Prelude.{ℕ, ◌≡◌, Bool, true, false, List, [], ◌∷◌, codes, Option, Some, None, Result, Ok, Err, refl}
+use Rattle.std.specs.Prelude.{ℕ, ◌≡◌, Bool, true, false, List, [], ◌∷◌, codes, Option, Some, None, Result, Ok}
+use Rattle.std.specs.Prelude.{Err, refl}
 use Rattle.std.specs.List.{list_any}
 use Rattle.std.specs.Prelude.{bytes_eq, pos}
-use Rattle.toml.specs.Data.{Data, integer, boolean, Items, no_items, item, Members, no_members, member, get_member, as_bool, as_array, as_table}
+use Rattle.toml.specs.Data.{Data, integer, boolean, Items, no_items, item, Members, no_members, member}
+use Rattle.toml.specs.Data.{get_member, as_bool, as_array, as_table}
 use Rattle.kb_catalog_text.specs.declared.key_fault.KeyFault.{KeyFault}
 use Rattle.kb_catalog_text.specs.declared.key_fault.KeyFault.TheVariants.{Missing, WrongKind, Unknown, Memory}
 
@@ -116,6 +118,7 @@ b_is_unknown : keys_read (is_among (codes "a" ∷ codes "c" ∷ [])) two_keys �
 unfolding keys_read first_failing
 b_is_unknown = refl
 
-second_is_no_flag : read_items (read_as as_bool) (codes "d") (item (boolean true) (item (integer (pos 1)) no_items)) ≡ Err (WrongKind (codes "d"))
+second_is_no_flag : read_items (read_as as_bool) (codes "d")
+    (item (boolean true) (item (integer (pos 1)) no_items)) ≡ Err (WrongKind (codes "d"))
 unfolding read_items
 second_is_no_flag = refl

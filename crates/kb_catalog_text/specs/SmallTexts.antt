@@ -7,9 +7,14 @@ use Rattle.kb_days.specs.DateText.{read_day, named_day, date_text, civil_text}
 use Rattle.kb_catalog.specs.SmallVersion.{small}
 use Rattle.kb_overdue.specs.ConfigRules.{fault_of, is_broken_at}
 use Rattle.kb_catalog_text.specs.declared.fault.TextFault.TheVariants.{NotToml, Unknown}
-use Rattle.kb_catalog_text.specs.Reads.{keys_read, first_failing, required, optional, read_or, read_array, read_table, read_items}
-use Rattle.kb_catalog_text.specs.Kinds.{name_in, currency_in, day_in, word_in, count_in, amount_in, threshold_in, format_in, text_where, number_in}
-use Rattle.kb_catalog_text.specs.CatalogText.{product_in, prices_in, amounts_in, phase_in, is_unlimited_in, span_in, length_in, plan_in, list_in, condition_in, change_policy_in, change_alignment_in, cancel_in, create_in, billing_in, rules_in, version_in}
+use Rattle.kb_catalog_text.specs.Reads.{keys_read, first_failing, required, optional, read_or, read_array}
+use Rattle.kb_catalog_text.specs.Reads.{read_table, read_items}
+use Rattle.kb_catalog_text.specs.Kinds.{name_in, currency_in, day_in, word_in, count_in, amount_in}
+use Rattle.kb_catalog_text.specs.Kinds.{threshold_in, format_in, text_where, number_in}
+use Rattle.kb_catalog_text.specs.CatalogText.{product_in, prices_in, amounts_in, phase_in, is_unlimited_in}
+use Rattle.kb_catalog_text.specs.CatalogText.{span_in, length_in, plan_in, list_in, condition_in}
+use Rattle.kb_catalog_text.specs.CatalogText.{change_policy_in, change_alignment_in, cancel_in, create_in}
+use Rattle.kb_catalog_text.specs.CatalogText.{billing_in, rules_in, version_in}
 use Rattle.kb_catalog_text.specs.OverdueText.{states_in, state_in}
 use Rattle.kb_catalog_text.specs.Texts.{text_read, document_of, catalog_read, overdue_read}
 
@@ -20,7 +25,8 @@ lines (line ∷ later) = line ++ 10 ∷ lines later
 
 -- the texts that a version's products, and its other tables, are said by
 abbrev products : List ℕ
-products = codes "product = [{name='Gold', category='BASE', available=['Help']}, {name='Help', category='ADD_ON'}]"
+products = codes
+    "product = [{name='Gold', category='BASE', available=['Help']}, {name='Help', category='ADD_ON'}]"
 
 abbrev catalog_with : List ℕ → List ℕ
 catalog_with product =
@@ -42,19 +48,35 @@ catalog_with product =
 
 -- what these examples unfold to compute
 small_version : catalog_read (catalog_with products) ≡ Ok small
-unfolding toml_on_literals is_utf8 chars text_read document_of version_in product_in plan_in phase_in is_unlimited_in span_in length_in prices_in amounts_in list_in rules_in change_policy_in change_alignment_in cancel_in create_in billing_in condition_in keys_read first_failing required optional read_or read_array read_table read_items name_in currency_in day_in word_in count_in amount_in format_in text_where number_in read_day named_day date_text civil_text month_of day_of_month month_after month_start month_length
+unfolding toml_on_literals is_utf8 chars text_read document_of
+    version_in product_in plan_in phase_in is_unlimited_in span_in length_in prices_in amounts_in list_in rules_in change_policy_in change_alignment_in cancel_in create_in billing_in condition_in keys_read first_failing required optional read_or read_array read_table read_items name_in currency_in day_in word_in count_in amount_in format_in text_where number_in read_day named_day date_text civil_text month_of day_of_month month_after month_start month_length
 small_version = refl
 
-unknown_colour : catalog_read (catalog_with (codes "product = [{name='Gold', category='BASE', colour=1}]")) ≡ Err (Unknown (codes "colour"))
-unfolding toml_on_literals is_utf8 chars text_read document_of version_in product_in keys_read first_failing required read_array read_table read_items name_in currency_in day_in format_in text_where number_in read_day named_day date_text civil_text month_of day_of_month month_after month_start month_length
+unknown_colour : catalog_read (catalog_with (codes "product = [{name='Gold', category='BASE', colour=1}]"))
+    ≡ Err (Unknown (codes "colour"))
+unfolding toml_on_literals is_utf8 chars text_read document_of version_in product_in keys_read first_failing
+    required read_array read_table read_items name_in currency_in day_in format_in text_where
+    number_in read_day named_day date_text civil_text month_of day_of_month month_after month_start
+    month_length
 unknown_colour = refl
 
 -- a state that is taken after 7 days
 abbrev late : List ℕ
-late = codes "state = [{name='LATE', days=7, block_change=true, block_entitlement=false, block_billing=false}]"
+late = codes
+    "state = [{name='LATE', days=7, block_change=true, block_entitlement=false, block_billing=false}]"
 
-one_state : overdue_read late ≡ Ok (record { name = codes "LATE"; days = Some 7; count = None; total = None; block_change = true; block_entitlement = false; block_billing = false } ∷ [])
-unfolding toml_on_literals is_utf8 chars text_read document_of states_in state_in keys_read first_failing required optional read_or read_array read_table read_items name_in threshold_in text_where number_in fault_of is_broken_at
+one_state : overdue_read late ≡ Ok (record {
+  name = codes "LATE";
+  days = Some 7;
+  count = None;
+  total = None;
+  block_change = true;
+  block_entitlement = false;
+  block_billing = false;
+} ∷ [])
+unfolding toml_on_literals is_utf8 chars text_read document_of states_in state_in keys_read first_failing
+    required optional read_or read_array read_table read_items name_in threshold_in text_where
+    number_in fault_of is_broken_at
 one_state = refl
 
 no_toml : overdue_read (codes "state = ") ≡ Err NotToml

@@ -1,5 +1,6 @@
 -- What a text is read as, from its bytes to the value that it says, and each fault.
-use Rattle.std.specs.Prelude.{ℕ, ◌≡◌, ◌<◌, ◌≤◌, nat_lt, List, length, if◌then◌else◌, Option, Some, None, Result, Ok, Err}
+use Rattle.std.specs.Prelude.{ℕ, ◌≡◌, ◌<◌, ◌≤◌, nat_lt, List, length, if◌then◌else◌, Option, Some, None}
+use Rattle.std.specs.Prelude.{Result, Ok, Err}
 use Rattle.std.specs.Str.{is_utf8}
 use Rattle.toml.specs.Data.{Members}
 use Rattle.toml.specs.Parse.{parse_document}
@@ -48,10 +49,13 @@ abbrev pub judged : {A : Type 0} → (A → Result A TextFault) → Read A → R
 judged rules (Ok value) = rules value
 judged rules (Err fault) = Err (fault_at fault)
 
--- what a text is read as: it isn't too long, then it is TOML, then its keys are read, and then its rules are tried
-unfoldable pub text_read : {A : Type 0} → (A → Result A TextFault) → (Members → Read A) → List ℕ → Result A TextFault
+-- what a text is read as: it isn't too long, then it is TOML, then its keys are read, and then its rules are
+-- tried
+unfoldable pub text_read : {A : Type 0} → (A → Result A TextFault) → (Members → Read A) → List ℕ
+    → Result A TextFault
 text_read {A} rules read bytes =
-    if nat_lt max_bytes (length bytes) then Err (text.TooLong (length bytes)) else of_document (document_of bytes)
+    if nat_lt max_bytes (length bytes) then Err (text.TooLong (length bytes))
+    else of_document (document_of bytes)
   where
     of_document : Option Members → Result A TextFault
     of_document None = Err text.NotToml

@@ -1,7 +1,10 @@
 -- The words of a text, and what each stands for.
-use Rattle.std.specs.Prelude.{ℕ, ◌≡◌, Bool, true, false, bytes_eq, List, [], ◌∷◌, map, codes, Option, Some, None, refl}
+use Rattle.std.specs.Prelude.{ℕ, ◌≡◌, Bool, true, false, bytes_eq, List, [], ◌∷◌, map, codes, Option, Some}
+use Rattle.std.specs.Prelude.{None, refl}
 use Rattle.kb_days.specs.declared.period.Period.{Period}
-use Rattle.kb_days.specs.declared.period.Period.TheVariants.{Daily, Weekly, Biweekly, ThirtyDays, Monthly, Quarterly, Biannual, Annual, Biennial, NoBillingPeriod}
+use Rattle.kb_days.specs.declared.period.Period.TheVariants.{Daily, Weekly, Biweekly, ThirtyDays, Monthly}
+use Rattle.kb_days.specs.declared.period.Period.TheVariants.{Quarterly, Biannual, Annual, Biennial}
+use Rattle.kb_days.specs.declared.period.Period.TheVariants.{NoBillingPeriod}
 use Rattle.kb_days.specs.Periods.{period_word}
 use Rattle.kb_catalog.specs.declared.words.Category.{Category}
 use Rattle.kb_catalog.specs.declared.words.Category.TheVariants.{Base, AddOn, Standalone}
@@ -30,35 +33,43 @@ look_up {A} (row ∷ later) text = of_test (bytes_eq text row.0) (look_up later 
 
 abbrev pub period_words : List (List ℕ × Period)
 period_words =
-    (codes "DAILY", Daily) ∷ (codes "WEEKLY", Weekly) ∷ (codes "BIWEEKLY", Biweekly) ∷ (codes "THIRTY_DAYS", ThirtyDays)
-    ∷ (codes "MONTHLY", Monthly) ∷ (codes "QUARTERLY", Quarterly) ∷ (codes "BIANNUAL", Biannual) ∷ (codes "ANNUAL", Annual)
+    (codes "DAILY", Daily) ∷ (codes "WEEKLY", Weekly) ∷ (codes "BIWEEKLY", Biweekly)
+    ∷ (codes "THIRTY_DAYS", ThirtyDays)
+    ∷ (codes "MONTHLY", Monthly) ∷ (codes "QUARTERLY", Quarterly) ∷ (codes "BIANNUAL", Biannual)
+    ∷ (codes "ANNUAL", Annual)
     ∷ (codes "BIENNIAL", Biennial) ∷ (codes "NO_BILLING_PERIOD", NoBillingPeriod) ∷ []
 
 abbrev pub category_words : List (List ℕ × Category)
 category_words = (codes "BASE", Base) ∷ (codes "ADD_ON", AddOn) ∷ (codes "STANDALONE", Standalone) ∷ []
 
 abbrev pub phase_words : List (List ℕ × PhaseType)
-phase_words = (codes "TRIAL", Trial) ∷ (codes "DISCOUNT", Discount) ∷ (codes "FIXEDTERM", FixedTerm) ∷ (codes "EVERGREEN", Evergreen) ∷ []
+phase_words = (codes "TRIAL", Trial) ∷ (codes "DISCOUNT", Discount) ∷ (codes "FIXEDTERM", FixedTerm)
+    ∷ (codes "EVERGREEN", Evergreen) ∷ []
 
 abbrev pub unit_words : List (List ℕ × SpanUnit)
 unit_words =
-    (codes "DAYS", unit.Days) ∷ (codes "WEEKS", unit.Weeks) ∷ (codes "MONTHS", unit.Months) ∷ (codes "YEARS", unit.Years)
+    (codes "DAYS", unit.Days) ∷ (codes "WEEKS", unit.Weeks) ∷ (codes "MONTHS", unit.Months)
+    ∷ (codes "YEARS", unit.Years)
     ∷ (codes "UNLIMITED", unit.Unlimited) ∷ []
 
 abbrev pub policy_words : List (List ℕ × Policy)
-policy_words = (codes "IMMEDIATE", Immediate) ∷ (codes "END_OF_TERM", EndOfTerm) ∷ (codes "ILLEGAL", Illegal) ∷ []
+policy_words = (codes "IMMEDIATE", Immediate) ∷ (codes "END_OF_TERM", EndOfTerm) ∷ (codes "ILLEGAL", Illegal)
+    ∷ []
 
 abbrev pub create_align_words : List (List ℕ × CreateAlign)
 create_align_words =
-    (codes "START_OF_BUNDLE", create.StartOfBundle) ∷ (codes "START_OF_SUBSCRIPTION", create.StartOfSubscription) ∷ []
+    (codes "START_OF_BUNDLE", create.StartOfBundle)
+    ∷ (codes "START_OF_SUBSCRIPTION", create.StartOfSubscription) ∷ []
 
 abbrev pub align_words : List (List ℕ × Align)
 align_words =
-    (codes "START_OF_BUNDLE", change.StartOfBundle) ∷ (codes "START_OF_SUBSCRIPTION", change.StartOfSubscription)
+    (codes "START_OF_BUNDLE", change.StartOfBundle)
+    ∷ (codes "START_OF_SUBSCRIPTION", change.StartOfSubscription)
     ∷ (codes "CHANGE_OF_PLAN", change.ChangeOfPlan) ∷ []
 
 abbrev pub billing_align_words : List (List ℕ × BillingAlign)
-billing_align_words = (codes "ACCOUNT", billing.Account) ∷ (codes "BUNDLE", billing.Bundle) ∷ (codes "SUBSCRIPTION", billing.Subscription) ∷ []
+billing_align_words = (codes "ACCOUNT", billing.Account) ∷ (codes "BUNDLE", billing.Bundle)
+    ∷ (codes "SUBSCRIPTION", billing.Subscription) ∷ []
 
 a_period : look_up period_words (codes "THIRTY_DAYS") ≡ Some ThirtyDays
 a_period = refl

@@ -7,7 +7,8 @@ use crate::key_fault::KeyFault;
 use kb_base::Seq;
 use thiserror::Error;
 
-/// Why a text is refused: the first fault in the order of its tables and keys. A key is given as its own bytes.
+/// Why a text is refused: the first fault in the order of its tables and keys. A key is given as its own
+/// bytes.
 #[derive(Debug, Drop, Error)]
 pub enum TextFault {
     /// 1: it isn't TOML.
@@ -22,7 +23,8 @@ pub enum TextFault {
     /// 4: a key isn't known in its table.
     #[error("the key '{}' isn't known in its table: take it out, or spell it otherwise", in_words(.0))]
     Unknown(Seq<u8>),
-    /// 5: a rule of what the text says is broken: the number of the rule, and the place of its first offender.
+    /// 5: a rule of what the text says is broken: the number of the rule, and the place of its first
+    /// offender.
     #[error("rule {0} is broken, first at place {1} from 0 of what it speaks of: correct what stands there")]
     Rule(u32, u32),
     /// 6: memory ran out.

@@ -2,7 +2,8 @@
 ghost use Rattle.std.specs.Prelude.{ℕ, ◌≡◌, List, [], Some, None, IfOk, IfErr, option_map};
 ghost use Rattle.toml.specs.Data.{Data, get_member, as_table};
 ghost use Rattle.toml.specs.View.{view, table_view, items_view};
-ghost use Rattle.kb_catalog_text.specs.Reads.{Read, IsRead, IsTold, read_as, required, optional, read_or, read_items, read_array};
+ghost use Rattle.kb_catalog_text.specs.Reads.{Read, IsRead, IsTold, read_as, required, optional, read_or};
+ghost use Rattle.kb_catalog_text.specs.Reads.{read_items, read_array};
 
 use crate::key_fault::KeyFault;
 use kb_base::Seq;
@@ -78,7 +79,8 @@ pub(crate) fn table_of<'v>(
     value: &'v Value,
 ) -> Result<&'v Table, KeyFault>
     ensures ok { IfOk result (λ table. as_table (view value.now) ≡ Some (table_view table.now)) }
-    ensures fault { IfErr result (λ fault. (as_table (view value.now) ≡ None) × IsTold fault (KeyFault.WrongKind key.now)) }
+    ensures fault { IfErr result (λ fault. (as_table (view value.now) ≡ None)
+        × IsTold fault (KeyFault.WrongKind key.now)) }
 {
     match value.as_table() {
         None => Err(KeyFault::wrong_kind(alloc, key)),

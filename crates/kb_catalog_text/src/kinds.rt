@@ -1,9 +1,11 @@
 //! The kinds of values that a text has at its keys.
-ghost use Rattle.std.specs.Prelude.{◌≡◌, ◌≤◌, ◌&&◌, nat_le, if◌then◌else◌, option_and_then, Some, None, IfSome};
+ghost use Rattle.std.specs.Prelude.{◌≡◌, ◌≤◌, ◌&&◌, nat_le, if◌then◌else◌, option_and_then, Some, None};
+ghost use Rattle.std.specs.Prelude.{IfSome};
 ghost use Rattle.toml.specs.Data.{as_bool};
 ghost use Rattle.toml.specs.View.{view};
 ghost use Rattle.kb_catalog_text.specs.Reads.{IsRead, read_as, read_found};
-ghost use Rattle.kb_catalog_text.specs.Kinds.{name_in, currency_in, day_in, number_in, count_in, amount_in, threshold_in, format_in, natural};
+ghost use Rattle.kb_catalog_text.specs.Kinds.{name_in, currency_in, day_in, number_in, count_in, amount_in};
+ghost use Rattle.kb_catalog_text.specs.Kinds.{threshold_in, format_in, natural};
 
 use crate::format::Format;
 use crate::from_value::FromValue;
@@ -179,7 +181,8 @@ fn number_in(value: &Value, low: u64, high: u64) -> Option<u64>
 
 /// The number that an integer is, from one to another.
 fn number_from(integer: i64, low: u64, high: u64) -> Option<u64>
-    ensures value { result ≡ option_and_then (λ number. if nat_le low number && nat_le number high then Some number else None) (natural integer) }
+    ensures value { result ≡ option_and_then (λ number. if nat_le low number && nat_le number high
+        then Some number else None) (natural integer) }
     ensures bounds { IfSome result (λ number. (low ≤ number) × (number ≤ high)) }
 {
     if integer < 0 {

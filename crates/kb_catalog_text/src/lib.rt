@@ -1,7 +1,7 @@
 //! The texts in which a shop hands in its catalog and its overdue rules, in TOML.
 //!
-//! The rule kept here: a text is read by its tables' keys in order, as exactly the value that it says, or refused
-//! by the first fault in that order, by name. The text is kept beside the value, unchanged.
+//! The rule kept here: a text is read by its tables' keys in order, as exactly the value that it says, or
+//! refused by the first fault in that order, by name. The text is kept beside the value, unchanged.
 #![tactic(auto)]
 
 mod catalog;

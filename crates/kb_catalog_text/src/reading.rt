@@ -3,7 +3,8 @@ ghost use Rattle.std.specs.Prelude.{ℕ, ◌≡◌, ◌<◌, ◌≤◌, ◌↔�
 ghost use Rattle.toml.specs.View.{table_view};
 ghost use Rattle.kb_catalog_text.specs.CatalogText.{version_in};
 ghost use Rattle.kb_catalog_text.specs.OverdueText.{states_in};
-ghost use Rattle.kb_catalog_text.specs.Texts.{max_bytes, document_of, catalog_read, overdue_read, version_judged, states_judged, judged, IsFaultOf, IsNoDocument};
+ghost use Rattle.kb_catalog_text.specs.Texts.{max_bytes, document_of, catalog_read, overdue_read};
+ghost use Rattle.kb_catalog_text.specs.Texts.{version_judged, states_judged, judged, IsFaultOf, IsNoDocument};
 
 use crate::TextFault;
 use crate::catalog::read_version;
@@ -54,16 +55,18 @@ impl Model for CheckedOverdue {
     ghost invariant = { λ checked. overdue_read checked.text ≡ Ok checked.config };
 }
 
-/// Reads a catalog text of at most `MAX_BYTES`: gives it back unchanged, with the valid version that it says, or the
-/// first fault. Keys are read in the order of the format, and what a key holds in full before the next one; the rules
-/// of a version are tried last. `Memory` may come at any point of a text that isn't too long.
+/// Reads a catalog text of at most `MAX_BYTES`: gives it back unchanged, with the valid version that it says,
+/// or the first fault. Keys are read in the order of the format, and what a key holds in full before the next
+/// one; the rules of a version are tried last. `Memory` may come at any point of a text that isn't too long.
 #[tactic(auto, using(crate::proofs::FaultCauses::causes))]
 pub fn read(alloc: Global, text: Vec<u8>) -> Result<Checked, TextFault>
     ensures text { IfOk result (λ checked. checked.text ≡ text.items) }
     ensures version { IfOk result (λ checked. catalog_read text.items ≡ Ok checked.version) }
     ensures fault { IfErr result (IsFaultOf (catalog_read text.items)) }
-    ensures too_long { (count : ℕ) → (result ≡ Err (TextFault.TooLong count)) ↔ ((max_bytes < length text.items) × (count ≡ length text.items)) }
-    ensures not_toml { result ≡ Err TextFault.NotToml → (length text.items ≤ max_bytes) × (document_of text.items ≡ None) }
+    ensures too_long { (count : ℕ) → (result ≡ Err (TextFault.TooLong count))
+        ↔ ((max_bytes < length text.items) × (count ≡ length text.items)) }
+    ensures not_toml { result ≡ Err TextFault.NotToml → (length text.items ≤ max_bytes)
+        × (document_of text.items ≡ None) }
 {
     match version_of(alloc, &text) {
         Ok(version) => Ok(Checked {
@@ -74,15 +77,17 @@ pub fn read(alloc: Global, text: Vec<u8>) -> Result<Checked, TextFault>
     }
 }
 
-/// Reads an overdue text of at most `MAX_BYTES`: gives it back unchanged, with the overdue states that it says, or the
-/// first fault, in the same order. `Memory` may come at any point of a text that isn't too long.
+/// Reads an overdue text of at most `MAX_BYTES`: gives it back unchanged, with the overdue states that it
+/// says, or the first fault, in the same order. `Memory` may come at any point of a text that isn't too long.
 #[tactic(auto, using(crate::proofs::FaultCauses::causes))]
 pub fn read_overdue(alloc: Global, text: Vec<u8>) -> Result<CheckedOverdue, TextFault>
     ensures text { IfOk result (λ checked. checked.text ≡ text.items) }
     ensures states { IfOk result (λ checked. overdue_read text.items ≡ Ok checked.states) }
     ensures fault { IfErr result (IsFaultOf (overdue_read text.items)) }
-    ensures too_long { (count : ℕ) → (result ≡ Err (TextFault.TooLong count)) ↔ ((max_bytes < length text.items) × (count ≡ length text.items)) }
-    ensures not_toml { result ≡ Err TextFault.NotToml → (length text.items ≤ max_bytes) × (document_of text.items ≡ None) }
+    ensures too_long { (count : ℕ) → (result ≡ Err (TextFault.TooLong count))
+        ↔ ((max_bytes < length text.items) × (count ≡ length text.items)) }
+    ensures not_toml { result ≡ Err TextFault.NotToml → (length text.items ≤ max_bytes)
+        × (document_of text.items ≡ None) }
 {
     match config_of(alloc, &text) {
         Ok(config) => Ok(CheckedOverdue {
@@ -158,7 +163,8 @@ fn version_of(alloc: Global, text: &[u8]) -> Result<Valid, TextFault>
 
 /// The version that a document says, if its rules hold.
 fn judged_version(alloc: Global, table: &Table) -> Result<Valid, TextFault>
-    ensures version { IfOk result (λ version. judged version_judged (version_in (table_view table.now)) ≡ Ok version) }
+    ensures version { IfOk result (λ version. judged version_judged (version_in (table_view table.now))
+        ≡ Ok version) }
     ensures fault { IfErr result (IsFaultOf (judged version_judged (version_in (table_view table.now)))) }
 {
     let version = read_version(alloc, table)?;
@@ -186,7 +192,8 @@ fn config_of(alloc: Global, text: &[u8]) -> Result<Config, TextFault>
 
 /// The states that a document says, if their rules hold.
 fn judged_states(alloc: Global, table: &Table) -> Result<Config, TextFault>
-    ensures states { IfOk result (λ states. judged states_judged (states_in (table_view table.now)) ≡ Ok states) }
+    ensures states { IfOk result (λ states. judged states_judged (states_in (table_view table.now))
+        ≡ Ok states) }
     ensures fault { IfErr result (IsFaultOf (judged states_judged (states_in (table_view table.now)))) }
 {
     let states = read_states(alloc, table)?;

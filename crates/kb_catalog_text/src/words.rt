@@ -3,7 +3,9 @@ ghost use Rattle.std.specs.Prelude.{◌≡◌, map};
 ghost use Rattle.toml.specs.View.{view};
 ghost use Rattle.kb_catalog_text.specs.Reads.{read_as};
 ghost use Rattle.kb_catalog_text.specs.Kinds.{word_in};
-ghost use Rattle.kb_catalog_text.specs.Words.{look_up, period_words, category_words, phase_words, unit_words, policy_words, create_align_words, align_words, billing_align_words};
+ghost use Rattle.kb_catalog_text.specs.Words.{look_up, period_words, category_words, phase_words, unit_words};
+ghost use Rattle.kb_catalog_text.specs.Words.{policy_words, create_align_words, align_words};
+ghost use Rattle.kb_catalog_text.specs.Words.{billing_align_words};
 
 use crate::from_value::FromValue;
 use crate::key_fault::KeyFault;

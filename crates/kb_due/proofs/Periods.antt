@@ -1,7 +1,8 @@
 -- Months are periods: neighbouring boundaries with the day between them.
 use Rattle.std.proofs.Common.{ℕ, ◌+◌, ◌<◌, ◌≤◌, sym, ◌∙◌, arith}
 use Rattle.kb_days.specs.Calendar.{month_start, month_of}
-use Rattle.kb_days.proofs.Months.{mark-first, month_length-high, month_start-suc, month_start-rises, month_start-order}
+use Rattle.kb_days.proofs.Months.{mark-first, month_length-high, month_start-suc, month_start-rises}
+use Rattle.kb_days.proofs.Months.{month_start-order}
 use Rattle.kb_days.proofs.Marks.{month_of-first_day, month_of-last_charged}
 use Rattle.kb_days.proofs.Months.{month_of-began, month_of-not_over, month_of-only, month_of-rises}
 use Rattle.kb_due.specs.FirstDue.{period_start, period_end, IsPeriod}

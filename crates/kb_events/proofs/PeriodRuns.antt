@@ -57,7 +57,8 @@ module _ (facts : FactsValue) (subscription : Subscription) (governing : Governi
           → found ≡ runs same_cell key first (to - first)
       runs-late day cell found after before period late so_far =
           runs-quiet day found after before
-          (λ (other : ℕ) later up_to. begun_cell-later facts subscription governing billed day other cell period
+          (λ (other : ℕ) later up_to. begun_cell-later facts subscription governing billed day other cell
+          period
           late later) so_far
 
       -- else the days of the period have its cell

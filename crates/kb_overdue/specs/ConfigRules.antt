@@ -1,5 +1,6 @@
 -- The three rules of overdue states: where each is broken, and the first that is.
-use Rattle.std.specs.Prelude.{ℕ, ◌≡◌, Bool, true, false, not, ◌&&◌, ◌||◌, ◌==◌, nat_le, bytes_eq, List, [], ◌∷◌, length, replicate, codes, is_none, Option, Some, None, refl}
+use Rattle.std.specs.Prelude.{ℕ, ◌≡◌, Bool, true, false, not, ◌&&◌, ◌||◌, ◌==◌, nat_le, bytes_eq, List, []}
+use Rattle.std.specs.Prelude.{◌∷◌, length, replicate, codes, is_none, Option, Some, None, refl}
 use Rattle.kb_base.specs.Offenders.{first_place, passes_at, repeats_at}
 use Rattle.kb_overdue.specs.declared.state.OverdueState.{OverdueState}
 use Rattle.kb_overdue.specs.declared.config.ConfigRule.{ConfigRule}
@@ -43,7 +44,8 @@ has_name_of state other = bytes_eq state.name other.name
 one_name : has_name_of (after_days (codes "LATE") (Some 7)) (after_days (codes "LATE") None) ≡ true
 one_name = refl
 
-names_of_other_letters : has_name_of (after_days (codes "LATE") (Some 7)) (after_days (codes "Late") (Some 7)) ≡ false
+names_of_other_letters : has_name_of (after_days (codes "LATE") (Some 7)) (after_days (codes "Late") (Some 7))
+    ≡ false
 names_of_other_letters = refl
 
 -- a state has none of the three conditions
@@ -80,19 +82,22 @@ unfolding is_broken_at
 the_seventeenth = refl
 
 the_name_again :
-    first_offender (after_days (codes "A") (Some 9) ∷ after_days (codes "B") (Some 7) ∷ after_days (codes "A") None ∷ [])
+    first_offender (after_days (codes "A") (Some 9) ∷ after_days (codes "B") (Some 7)
+    ∷ after_days (codes "A") None ∷ [])
     Names
     ≡ Some 2
 unfolding is_broken_at
 the_name_again = refl
 
 the_name_of_who_pays :
-    first_offender (after_days (codes "LATE") (Some 7) ∷ after_days (codes "CLEAR") (Some 5) ∷ []) Names ≡ Some 1
+    first_offender (after_days (codes "LATE") (Some 7) ∷ after_days (codes "CLEAR") (Some 5) ∷ []) Names
+    ≡ Some 1
 unfolding is_broken_at
 the_name_of_who_pays = refl
 
 the_first_without :
-    first_offender (after_days (codes "A") (Some 9) ∷ after_days (codes "B") None ∷ after_days (codes "C") None ∷ [])
+    first_offender (after_days (codes "A") (Some 9) ∷ after_days (codes "B") None
+    ∷ after_days (codes "C") None ∷ [])
     Conditions
     ≡ Some 1
 unfolding is_broken_at

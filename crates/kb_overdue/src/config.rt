@@ -3,7 +3,8 @@ ghost use Rattle.std.specs.Prelude.{◌≡◌, ◌<◌, ◌≤◌, ◌↔◌, le
 ghost use Rattle.std.specs.List.{list_any};
 ghost use Rattle.kb_overdue.specs.declared.config.ConfigFault.{ConfigFault};
 ghost use Rattle.kb_overdue.specs.declared.config.ConfigRule.TheVariants.{Names, Conditions};
-ghost use Rattle.kb_overdue.specs.ConfigRules.{max_states, has_name_of, is_unconditional, is_broken_at, first_offender, fault_of, rule_number, AreStates};
+ghost use Rattle.kb_overdue.specs.ConfigRules.{max_states, has_name_of, is_unconditional, is_broken_at};
+ghost use Rattle.kb_overdue.specs.ConfigRules.{first_offender, fault_of, rule_number, AreStates};
 
 use crate::OverdueState;
 use kb_base::Seq;
@@ -13,7 +14,8 @@ use thiserror::Error;
 /// The most states that there may be.
 pub const MAX_STATES: usize = 16;
 
-/// A rule that overdue states have to keep, with what is told where it is broken. They are tried in this order.
+/// A rule that overdue states have to keep, with what is told where it is broken. They are tried in this
+/// order.
 #[derive(Clone, Copy, Debug, Error)]
 pub enum ConfigRule {
     /// 1: there are at most `MAX_STATES` states.
@@ -27,8 +29,8 @@ pub enum ConfigRule {
     Conditions,
 }
 
-/// The first rule that some states break, and the place, from 0, of the first offender: that behind the last one that
-/// there may be for too many.
+/// The first rule that some states break, and the place, from 0, of the first offender: that behind the last
+/// one that there may be for too many.
 #[derive(Clone, Copy, Debug, Error)]
 #[error("rule {}, at place {index} from 0: {rule}", .rule.number())]
 pub struct ConfigFault {

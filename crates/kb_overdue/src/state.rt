@@ -47,8 +47,8 @@ impl Threshold {
     }
 }
 
-/// A state of an account that doesn't pay. It is taken if each condition that is stated holds, and blocks what its
-/// flags say.
+/// A state of an account that doesn't pay. It is taken if each condition that is stated holds, and blocks
+/// what its flags say.
 #[derive(Clone, Copy, Debug, PartialEq, Eq)]
 pub struct OverdueState {
     pub name: Name,

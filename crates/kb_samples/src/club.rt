@@ -1,5 +1,5 @@
-//! The texts of a club, for what the shop hasn't got: an add-on of two products, cycle days of the subscription
-//! and of the lead, phases counted from a change, and a second version.
+//! The texts of a club, for what the shop hasn't got: an add-on of two products, cycle days of the
+//! subscription and of the lead, phases counted from a change, and a second version.
 
 /// The club's catalog: plans named as their products.
 ///

@@ -1,7 +1,8 @@
 //! Accounts to test on: catalogs read from a shop's texts, and accounts as they are told in steps.
 //!
-//! The rule kept here: nothing that ships stands on it. Crates of rows take its accounts into their tests alone;
-//! what an account tells in dates and names that make no sense is a `SampleFault`, which fails the test.
+//! The rule kept here: nothing that ships stands on it. Crates of rows take its accounts into their tests
+//! alone; what an account tells in dates and names that make no sense is a `SampleFault`, which fails the
+//! test.
 #![tactic(auto)]
 
 mod account;

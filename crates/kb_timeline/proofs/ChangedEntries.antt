@@ -1,5 +1,6 @@
 -- What a change leaves of entries, and that the entries after it are entries again.
-use Rattle.std.proofs.Common.{◌≡◌, ℕ, suc, ◌<◌, ◌≤◌, true, false, List, [], ◌∷◌, ◌++◌, length, take, drop, filter, nat_lt, ap, arith}
+use Rattle.std.proofs.Common.{◌≡◌, ℕ, suc, ◌<◌, ◌≤◌, true, false, List, [], ◌∷◌, ◌++◌, length, take, drop}
+use Rattle.std.proofs.Common.{filter, nat_lt, ap, arith}
 use Rattle.std.specs.List.{All, AllPairs}
 use Rattle.std.specs.List.Sorted.{IsPartitionPoint}
 use Rattle.std.proofs.lemmas.Bool.{ltb-true, ltb-false}
@@ -34,7 +35,8 @@ IsEntries-with_change (start ∷ changes) change is begun limit =
     record {
       started = omega arith;
       begun =
-          AllPairs-cons (λ (earlier later : Entry). earlier.day ≤ later.day) start later behind (λ i j d below within. let less = rise i j d below within in omega arith);
+          AllPairs-cons (λ (earlier later : Entry). earlier.day ≤ later.day) start later behind
+          (λ i j d below within. let less = rise i j d below within in omega arith);
       rising = rise;
       limit = limit;
     }
@@ -48,11 +50,15 @@ IsEntries-with_change (start ∷ changes) change is begun limit =
     rise : AllPairs (λ (one other : Entry). one.day < other.day) later
     rise =
         all_pairs_push (λ (one other : Entry). one.day < other.day) kept change
-        (AllPairs-filter (λ (one other : Entry). one.day < other.day) (λ (other : Entry). nat_lt other.day change.day) changes is.rising)
-        (λ k d within. ltb-true _ change.day (filter_passes (λ (other : Entry). nat_lt other.day change.day) changes k d within))
+        (AllPairs-filter (λ (one other : Entry). one.day < other.day)
+        (λ (other : Entry). nat_lt other.day change.day) changes is.rising)
+        (λ k d within. ltb-true _ change.day (filter_passes (λ (other : Entry). nat_lt other.day change.day)
+        changes k d within))
 
     behind : All (λ (other : Entry). start.day ≤ other.day) later
     behind =
         All-push (λ (other : Entry). start.day ≤ other.day) kept change
-        (All-filter (λ (other : Entry). nat_lt other.day change.day) (λ (other : Entry). start.day ≤ other.day) changes (λ k d within. is.begun 0 (suc k) d (omega arith) (omega arith)))
+        (All-filter (λ (other : Entry). nat_lt other.day change.day)
+        (λ (other : Entry). start.day ≤ other.day) changes
+        (λ k d within. is.begun 0 (suc k) d (omega arith) (omega arith)))
         (ltb-false change.day start.day begun)

@@ -1,5 +1,6 @@
 -- The entry that governs a day is dated on or before it.
-use Rattle.std.proofs.Common.{◌≡◌, ℕ, ◌≤◌, Bool, true, false, List, [], ◌∷◌, filter, Option, Some, None, IfSome, Bor, refl, sym}
+use Rattle.std.proofs.Common.{◌≡◌, ℕ, ◌≤◌, Bool, true, false, List, [], ◌∷◌, filter, Option, Some, None}
+use Rattle.std.proofs.Common.{IfSome, Bor, refl, sym}
 use Rattle.std.specs.List.{last_or}
 use Rattle.std.specs.Option.{option_copied}
 use Rattle.std.proofs.lemmas.Bool.{leb-true}
@@ -17,7 +18,8 @@ last_or-filter {A} test before (member ∷ later) last passes found = by_test (t
     (last_or-filter test (Some member) later last) (last_or-filter test before later last passes)
   where
     by_test : (here : Bool) → test member ≡ here
-        → (IfSome (Some member) (λ (other : A). test other ≡ true) → last_or (Some member) (filter test later) ≡ Some last → test last ≡ true)
+        → (IfSome (Some member) (λ (other : A). test other ≡ true)
+        → last_or (Some member) (filter test later) ≡ Some last → test last ≡ true)
         → (last_or before (filter test later) ≡ Some last → test last ≡ true) → test last ≡ true
     by_test true is one other = one is (rw is at found)
     by_test false is one other = other (rw is at found)

@@ -1,5 +1,6 @@
 -- A list of which the member at a place is edited.
-use Rattle.std.proofs.Common.{◌≡◌, ℕ, zero, suc, ◌+◌, Bool, if◌then◌else◌, List, [], ◌∷◌, length, get_or, set, slice_get, Some, refl, ap, sym, ◌∙◌}
+use Rattle.std.proofs.Common.{◌≡◌, ℕ, zero, suc, ◌+◌, Bool, if◌then◌else◌, List, [], ◌∷◌, length, get_or, set}
+use Rattle.std.proofs.Common.{slice_get, Some, refl, ap, sym, ◌∙◌}
 use Rattle.std.specs.List.{position_from}
 use Rattle.std.proofs.lemmas.Option.{none-some}
 use Rattle.kb_timeline.specs.declared.subscription.Subscription.{Subscription}
@@ -59,10 +60,12 @@ module _ {A : Type 0} where
       edited_at-keeps of place old new later there kept other d
 
 -- where the new subscription is what an edit makes of the one that is there, that edit is made
-pub with_edit-there : (timeline : TimelineValue) (place : ℕ) (edit : Subscription → Subscription) (old new : Subscription)
+pub with_edit-there : (timeline : TimelineValue) (place : ℕ) (edit : Subscription → Subscription)
+    (old new : Subscription)
     → slice_get timeline.subscriptions place ≡ Some old → new ≡ edit old
     → with_edit timeline place (λ (subscription : Subscription). new) ≡ with_edit timeline place edit
 with_edit-there timeline place edit old new there made =
     ap (λ (subscriptions : List Subscription). record timeline { subscriptions = subscriptions })
-    (ap (λ (subscription : Subscription). edited_at place (λ (member : Subscription). subscription) timeline.subscriptions) made
+    (ap (λ (subscription : Subscription). edited_at place (λ (member : Subscription). subscription)
+    timeline.subscriptions) made
     ∙ sym (edited_at-there place edit old timeline.subscriptions there))

@@ -1,5 +1,8 @@
 -- A timeline stays one when a subscription is created or edited.
-use Rattle.std.proofs.Common.{◌≡◌, ℕ, ◌+◌, ◌<◌, ◌≤◌, Bool, true, false, List, [], ◌∷◌, ◌++◌, length, length-append, get_or, slice_get, bytes_eq, nat_lt, nat_eq, unwrap_or, Option, Some, None, IsSome, IfSome, ◌⊎◌, inl, inr, refl, sym, subst, ap, ltb-true, arith}
+use Rattle.std.proofs.Common.{◌≡◌, ℕ, ◌+◌, ◌<◌, ◌≤◌, Bool, true, false, List, [], ◌∷◌, ◌++◌, length}
+use Rattle.std.proofs.Common.{length-append, get_or, slice_get, bytes_eq, nat_lt, nat_eq, unwrap_or, Option}
+use Rattle.std.proofs.Common.{Some, None, IsSome, IfSome, ◌⊎◌, inl, inr, refl, sym, subst, ap, ltb-true}
+use Rattle.std.proofs.Common.{arith}
 use Rattle.std.specs.List.{All, AllPairs, position_from}
 use Rattle.std.proofs.lemmas.Bool.{cases_lt, eq-eqb}
 use Rattle.std.proofs.lemmas.List.Elements.{All-push}
@@ -8,7 +11,9 @@ use Rattle.std.proofs.lemmas.Option.{slice_get-get_or}
 use Rattle.std.proofs.lemmas.Slice.Eq.{bytes_eq-Decides}
 use Rattle.kb_timeline.specs.declared.entry.Entry.{Entry}
 use Rattle.kb_timeline.specs.declared.subscription.Subscription.{Subscription}
-use Rattle.kb_timeline.specs.TimelineEdits.{TimelineValue, IsTimeline, max_subscriptions, bundle_named, subscription_named, lead_of, with_name, created, create_fault, edited_at, with_edit}
+use Rattle.kb_timeline.specs.TimelineEdits.{TimelineValue, IsTimeline, max_subscriptions, bundle_named}
+use Rattle.kb_timeline.specs.TimelineEdits.{subscription_named, lead_of, with_name, created, create_fault}
+use Rattle.kb_timeline.specs.TimelineEdits.{edited_at, with_edit}
 use Rattle.kb_timeline.proofs.EditedMembers.{edited_at-keeps, length-edited_at, position_from-edited_at}
 use Rattle.kb_timeline.proofs.FoundPlaces.{position_from-none, position_from-within, position_from-push}
 
@@ -34,7 +39,8 @@ IsTimeline-with_edit timeline place new is within same =
     record {
       bundle_names = is.bundle_names;
       names =
-          λ i j d below inside. rw (same_name i d, same_name j d) (is.names i j d below (omega (arith, count)));
+          λ i j d below inside. rw (same_name i d, same_name j d)
+          (is.names i j d below (omega (arith, count)));
       placed = λ k d inside. rw (same_bundle k d) (is.placed k d (omega (arith, count)));
       led = λ bundle inside. rw (same_lead bundle) (is.led bundle inside);
       few = omega (arith, count, is.few);
@@ -97,7 +103,8 @@ AllPairs-with_name : (names : List (List ℕ)) (name : List ℕ) (place : Option
     → AllPairs (λ (one other : List ℕ). bytes_eq one other ≡ false) (with_name names place name)
 AllPairs-with_name names name None is differ =
     all_pairs_push (λ (one other : List ℕ). bytes_eq one other ≡ false) names name differ
-    (λ k d within. bytes_eq-flip name _ (position_from-none (λ (other : List ℕ). bytes_eq name other) 0 names is k d within))
+    (λ k d within. bytes_eq-flip name _ (position_from-none (λ (other : List ℕ). bytes_eq name other) 0 names
+    is k d within))
 AllPairs-with_name names name (Some place) is differ = differ
 
 -- the place of a name among names of which it is one
@@ -111,7 +118,8 @@ unwrap_or-with_name names name (Some place) is =
 
 -- there are as many names as before, or one more
 length-with_name : (names : List (List ℕ)) (name : List ℕ) (place : Option ℕ)
-    → (length names ≤ length (with_name names place name)) × (length (with_name names place name) ≤ length names + 1)
+    → (length names ≤ length (with_name names place name))
+    × (length (with_name names place name) ≤ length names + 1)
 length-with_name names name None =
     (omega (arith, length-append names (name ∷ [])), omega (arith, length-append names (name ∷ [])))
 length-with_name names name (Some place) = (omega arith, omega arith)
@@ -152,7 +160,14 @@ IsTimeline-created timeline bundle name addon first is none =
 
     new : Subscription
     new =
-        record { name = name; bundle = unwrap_or place (length timeline.bundles); addon = addon; entries = first ∷ []; cancel = None }
+        record {
+          name = name;
+          bundle = unwrap_or place (length timeline.bundles);
+          addon = addon;
+          entries =
+              first ∷ [];
+          cancel = None;
+        }
 
     room : (subscription_named timeline name ≡ None) × (length timeline.subscriptions < max_subscriptions)
     room = create_fault-none timeline name none
@@ -167,7 +182,8 @@ IsTimeline-created timeline bundle name addon first is none =
         → bytes_eq (get_or timeline.subscriptions k d).name name ≡ false
     other_name k d within =
         bytes_eq-flip name _
-        (position_from-none (λ (subscription : Subscription). bytes_eq name subscription.name) 0 timeline.subscriptions room.0 k d within)
+        (position_from-none (λ (subscription : Subscription). bytes_eq name subscription.name) 0
+        timeline.subscriptions room.0 k d within)
 
     earlier : All (λ (subscription : Subscription). subscription.bundle < length names) timeline.subscriptions
     earlier k d within = let old = is.placed k d within in omega (arith, longer.0)

@@ -1,5 +1,6 @@
 -- The lead of a bundle.
-use Rattle.std.proofs.Common.{◌≡◌, ℕ, true, slice_get, nat_eq, Option, Some, None, IfSome, ◌+◌, ◌∙◌, ap, sym, arith}
+use Rattle.std.proofs.Common.{◌≡◌, ℕ, true, slice_get, nat_eq, Option, Some, None, IfSome, ◌+◌, ◌∙◌, ap, sym}
+use Rattle.std.proofs.Common.{arith}
 use Rattle.std.proofs.lemmas.Bool.{eqb-true, eqb-false}
 use Rattle.kb_timeline.specs.declared.subscription.Subscription.{Subscription}
 use Rattle.kb_timeline.specs.TimelineEdits.{TimelineValue, IsLead, lead_of}

@@ -1,5 +1,6 @@
 -- Members of which the first ones alone pass a test.
-use Rattle.std.proofs.Common.{◌≡◌, ℕ, zero, suc, ◌<◌, ◌≤◌, Bool, true, false, List, [], ◌∷◌, length, take, filter, slice_get, Option, Some, refl, ap, arith}
+use Rattle.std.proofs.Common.{◌≡◌, ℕ, zero, suc, ◌<◌, ◌≤◌, Bool, true, false, List, [], ◌∷◌, length, take}
+use Rattle.std.proofs.Common.{filter, slice_get, Option, Some, refl, ap, arith}
 use Rattle.std.specs.List.{last_or}
 use Rattle.std.specs.List.Sorted.{IsPartitionPoint}
 
@@ -18,8 +19,10 @@ filter-take {A} p (x ∷ xs) zero within point =
 filter-take p (x ∷ xs) (suc n) within point =
     let passes : p x ≡ true = point.0 0 x (omega arith) (omega arith) in
     let later : filter p xs ≡ take n xs =
-    filter-take p xs n (omega arith)
-    (λ k d low high. point.0 (suc k) d (omega arith) (omega arith), λ k d low high. point.1 (suc k) d (omega arith) (omega arith)) in
+    filter-take p xs n (omega arith) (
+      λ k d low high. point.0 (suc k) d (omega arith) (omega arith),
+      λ k d low high. point.1 (suc k) d (omega arith) (omega arith),
+    ) in
     rw passes (ap (λ rest. x ∷ rest) later)
 
 -- the last of the first members

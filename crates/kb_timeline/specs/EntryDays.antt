@@ -1,5 +1,6 @@
 -- The entries of a subscription: its start, and its changes by rising day. Which of them governs a day.
-use Rattle.std.specs.Prelude.{ℕ, ◌<◌, ◌≤◌, Bool, false, nat_le, nat_lt, List, [], ◌∷◌, ◌++◌, length, drop, filter, Option, None}
+use Rattle.std.specs.Prelude.{ℕ, ◌<◌, ◌≤◌, Bool, false, nat_le, nat_lt, List, [], ◌∷◌, ◌++◌, length, drop}
+use Rattle.std.specs.Prelude.{filter, Option, None}
 use Rattle.std.specs.List.{AllPairs, last_or}
 use Rattle.kb_timeline.specs.declared.entry.Entry.{Entry}
 

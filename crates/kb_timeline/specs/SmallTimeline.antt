@@ -3,10 +3,13 @@ use Rattle.std.specs.Prelude.{ℕ, ◌≡◌, true, false, [], ◌∷◌, codes,
 use Rattle.kb_days.specs.Dates.{february, march}
 use Rattle.kb_timeline.specs.declared.entry.Entry.{Entry}
 use Rattle.kb_timeline.specs.declared.subscription.Subscription.{Subscription}
-use Rattle.kb_timeline.specs.declared.edit_fault.EditFault.TheVariants.{SubscriptionExists, BeforeStart, Cancelled, NotCancelled, Limit}
+use Rattle.kb_timeline.specs.declared.edit_fault.EditFault.TheVariants.{SubscriptionExists, BeforeStart}
+use Rattle.kb_timeline.specs.declared.edit_fault.EditFault.TheVariants.{Cancelled, NotCancelled, Limit}
 use Rattle.kb_timeline.specs.declared.edit_fault.Limit.TheVariants.{Subscriptions, Entries}
 use Rattle.kb_timeline.specs.EntryDays.{entry_on, with_change}
-use Rattle.kb_timeline.specs.TimelineEdits.{TimelineValue, no_subscriptions, subscription_named, lead_of, created, create_fault, change_fault, cancelled, cancel_fault, uncancelled, uncancel_fault}
+use Rattle.kb_timeline.specs.TimelineEdits.{TimelineValue, no_subscriptions, subscription_named, lead_of}
+use Rattle.kb_timeline.specs.TimelineEdits.{created, create_fault, change_fault, cancelled, cancel_fault}
+use Rattle.kb_timeline.specs.TimelineEdits.{uncancelled, uncancel_fault}
 
 -- an entry for a plan of the first version and list, the phases of which are counted from its own day
 abbrev of_plan : ℕ → ℕ → Entry

@@ -3,7 +3,8 @@ use Rattle.std.specs.Prelude.{ℕ, nat_lt, length, Option, Some, None, is_some, 
 use Rattle.kb_timeline.specs.declared.entry.Entry.{Entry}
 use Rattle.kb_timeline.specs.declared.subscription.Subscription.{Subscription}
 use Rattle.kb_timeline.specs.declared.edit_fault.EditFault.{EditFault}
-use Rattle.kb_timeline.specs.declared.edit_fault.EditFault.TheVariants.{BeforeStart, Cancelled, NotCancelled, Limit}
+use Rattle.kb_timeline.specs.declared.edit_fault.EditFault.TheVariants.{BeforeStart, Cancelled, NotCancelled}
+use Rattle.kb_timeline.specs.declared.edit_fault.EditFault.TheVariants.{Limit}
 use Rattle.kb_timeline.specs.declared.edit_fault.Limit.TheVariants.{Entries}
 use Rattle.kb_timeline.specs.EntryDays.{max_entries, is_before_start, with_change}
 

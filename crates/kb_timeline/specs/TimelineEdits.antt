@@ -1,12 +1,15 @@
 -- Timelines, and what an edit makes of one.
-use Rattle.std.specs.Prelude.{ℕ, zero, suc, ◌≡◌, ◌<◌, ◌≤◌, ◌≢◌, Bool, false, bytes_eq, nat_eq, nat_lt, List, [], ◌∷◌, ◌++◌, length, slice_get, take, All, Option, Some, None, IsSome, IfSome, is_some, unwrap_or, option_and_then, if◌then◌else◌}
+use Rattle.std.specs.Prelude.{ℕ, zero, suc, ◌≡◌, ◌<◌, ◌≤◌, ◌≢◌, Bool, false, bytes_eq, nat_eq, nat_lt, List}
+use Rattle.std.specs.Prelude.{[], ◌∷◌, ◌++◌, length, slice_get, take, All, Option, Some, None, IsSome, IfSome}
+use Rattle.std.specs.Prelude.{is_some, unwrap_or, option_and_then, if◌then◌else◌}
 use Rattle.std.specs.List.{AllPairs, position_from}
 use Rattle.kb_timeline.specs.declared.entry.Entry.{Entry}
 use Rattle.kb_timeline.specs.declared.subscription.Subscription.{Subscription}
 use Rattle.kb_timeline.specs.declared.edit_fault.EditFault.{EditFault}
 use Rattle.kb_timeline.specs.declared.edit_fault.EditFault.TheVariants.{SubscriptionExists, Limit}
 use Rattle.kb_timeline.specs.declared.edit_fault.Limit.TheVariants.{Subscriptions}
-use Rattle.kb_timeline.specs.SubscriptionEdits.{change_of, change_fault_of, cancel_of, cancel_fault_of, uncancel_of, uncancel_fault_of}
+use Rattle.kb_timeline.specs.SubscriptionEdits.{change_of, change_fault_of, cancel_of, cancel_fault_of}
+use Rattle.kb_timeline.specs.SubscriptionEdits.{uncancel_of, uncancel_fault_of}
 
 -- the most subscriptions that an account has
 abbrev pub max_subscriptions : ℕ

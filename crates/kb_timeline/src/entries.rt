@@ -1,8 +1,11 @@
 //! The entries of a subscription.
-ghost use Rattle.std.specs.Prelude.{◌≡◌, ◌↔◌, ◌<◌, ◌≤◌, ◌+◌, ◌++◌, ◌∷◌, [], true, false, length, take, drop, slice_get, Some, None, Err, All, IfOk, IfErr, IfSome, option_and_then, option_copied};
+ghost use Rattle.std.specs.Prelude.{◌≡◌, ◌↔◌, ◌<◌, ◌≤◌, ◌+◌, ◌++◌, ◌∷◌, [], true, false, length, take, drop};
+ghost use Rattle.std.specs.Prelude.{slice_get, Some, None, Err, All, IfOk, IfErr, IfSome, option_and_then};
+ghost use Rattle.std.specs.Prelude.{option_copied};
 ghost use Rattle.std.specs.List.Sorted.{IsPartitionPoint};
 ghost use Rattle.kb_timeline.specs.declared.entry.Entry.{Entry};
-ghost use Rattle.kb_timeline.specs.EntryDays.{max_entries, IsEntries, entry_on, is_before_start, kept_by_change, with_change};
+ghost use Rattle.kb_timeline.specs.EntryDays.{max_entries, IsEntries, entry_on, is_before_start};
+ghost use Rattle.kb_timeline.specs.EntryDays.{kept_by_change, with_change};
 
 use crate::{EditFault, Entry, Limit};
 use kb_base::{NoMemory, Seq};

@@ -1,6 +1,7 @@
 //! A subscription, and its edits.
 ghost use Rattle.std.specs.Prelude.{◌≡◌, None, Err, IfOk, IfErr, IfSome};
-ghost use Rattle.kb_timeline.specs.SubscriptionEdits.{change_of, change_fault_of, cancel_of, cancel_fault_of, uncancel_of, uncancel_fault_of};
+ghost use Rattle.kb_timeline.specs.SubscriptionEdits.{change_of, change_fault_of, cancel_of, cancel_fault_of};
+ghost use Rattle.kb_timeline.specs.SubscriptionEdits.{uncancel_of, uncancel_fault_of};
 
 use crate::{EditFault, Entries, Entry};
 use kb_base::NoMemory;

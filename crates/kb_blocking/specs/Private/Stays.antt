@@ -1,5 +1,6 @@
 -- Stays: the days on which each state is the last of its scope and service.
-use Rattle.std.specs.Prelude.{◌≡◌, ℕ, Bool, true, false, ◌&&◌, nat_le, nat_lt, List, [], ◌∷◌, ◌++◌, map, filter, fold, if◌then◌else◌, Option, Some, None, option_to_list, refl}
+use Rattle.std.specs.Prelude.{◌≡◌, ℕ, Bool, true, false, ◌&&◌, nat_le, nat_lt, List, [], ◌∷◌, ◌++◌, map}
+use Rattle.std.specs.Prelude.{filter, fold, if◌then◌else◌, Option, Some, None, option_to_list, refl}
 use Rattle.kb_days.specs.Dates.{march}
 use Rattle.kb_blocking.specs.declared.state.Scope.TheVariants.{Account}
 use Rattle.kb_blocking.specs.declared.state.Flag.{Flag}

@@ -1,5 +1,6 @@
 -- Stretches of days on which a flag is on, and the days on which it turns.
-use Rattle.std.specs.Prelude.{◌≡◌, ℕ, Bool, true, ◌&&◌, nat_le, List, [], ◌∷◌, ◌++◌, map, filter, if◌then◌else◌, Option, Some, None, option_to_list, refl}
+use Rattle.std.specs.Prelude.{◌≡◌, ℕ, Bool, true, ◌&&◌, nat_le, List, [], ◌∷◌, ◌++◌, map, filter}
+use Rattle.std.specs.Prelude.{if◌then◌else◌, Option, Some, None, option_to_list, refl}
 use Rattle.kb_blocking.specs.declared.state.Flag.{Flag}
 use Rattle.kb_blocking.specs.declared.state.Chain.{Chain}
 use Rattle.kb_blocking.specs.declared.stay.Stay.{Stay}

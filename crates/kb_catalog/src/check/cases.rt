@@ -4,7 +4,8 @@ ghost use Rattle.std.specs.List.{list_any};
 ghost use Rattle.std.specs.Option.{option_copied};
 ghost use Rattle.kb_catalog.specs.Products.{has_product};
 ghost use Rattle.kb_catalog.specs.Lists.{has_list};
-ghost use Rattle.kb_catalog.specs.Cases.{asks_nothing, asks_nothing_to, is_open, misses, names_wrongly, names_wrongly_to, case_names_wrongly, ends_open, decides_wrongly};
+ghost use Rattle.kb_catalog.specs.Cases.{asks_nothing, asks_nothing_to, is_open, misses, names_wrongly};
+ghost use Rattle.kb_catalog.specs.Cases.{names_wrongly_to, case_names_wrongly, ends_open, decides_wrongly};
 ghost use Rattle.kb_catalog.specs.VersionRules.{rule_list_wrong};
 
 use crate::case::Case;

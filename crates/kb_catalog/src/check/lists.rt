@@ -5,7 +5,8 @@ ghost use Rattle.kb_base.specs.Offenders.{passes_at, repeats_at};
 ghost use Rattle.kb_catalog.specs.declared.version.Plan.{Plan};
 ghost use Rattle.kb_catalog.specs.declared.version.PriceList.{PriceList};
 ghost use Rattle.kb_catalog.specs.Plans.{has_plan};
-ghost use Rattle.kb_catalog.specs.Lists.{agree, agrees_with_one, has_agreeing, sells_wrongly, has_list, default_list};
+ghost use Rattle.kb_catalog.specs.Lists.{agree, agrees_with_one, has_agreeing, sells_wrongly, has_list};
+ghost use Rattle.kb_catalog.specs.Lists.{default_list};
 
 use crate::case::same_period;
 use crate::check::has_name;
@@ -16,7 +17,8 @@ use kb_days::Name;
 /// Whether the list at a place has a name that stands earlier, or sells wrongly, or whether, behind the
 /// last list, none is named DEFAULT.
 pub(super) fn is_broken_at(version: &Version, place: usize) -> bool
-    ensures { result ≡ (repeats_at (λ (a : PriceList) (b : PriceList). bytes_eq a.name b.name) version.now.lists place
+    ensures { result ≡ (repeats_at (λ (a : PriceList) (b : PriceList). bytes_eq a.name b.name)
+        version.now.lists place
         || passes_at version.now.lists place (sells_wrongly version.now)
         || (place == length version.now.lists && not (has_list version.now default_list))) }
 {
@@ -34,7 +36,8 @@ pub(super) fn has_list(version: &Version, name: &Name) -> bool
 
 /// Whether the name of the list at a place stands earlier.
 fn name_repeats(version: &Version, place: usize) -> bool
-    ensures { result ≡ repeats_at (λ (a : PriceList) (b : PriceList). bytes_eq a.name b.name) version.now.lists place }
+    ensures { result ≡ repeats_at (λ (a : PriceList) (b : PriceList). bytes_eq a.name b.name)
+        version.now.lists place }
 {
     let lists = version.lists.as_slice();
     match lists.get(place) {
@@ -102,7 +105,8 @@ fn has_agreeing(version: &Version, names: &[Name]) -> bool
 
 /// Whether a plan of a name agrees with one of some names.
 fn is_sold_again(version: &Version, name: &Name, names: &[Name]) -> bool
-    ensures { result ≡ list_any (λ (plan : Plan). bytes_eq name.now plan.name && agrees_with_one version.now plan names.now) version.now.plans }
+    ensures { result ≡ list_any (λ (plan : Plan). bytes_eq name.now plan.name
+        && agrees_with_one version.now plan names.now) version.now.plans }
 {
     let plans = version.plans.as_slice();
     plans.iter().any(|plan| *name == plan.name && agrees_with_one(version, plan, names))

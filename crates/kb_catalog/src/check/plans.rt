@@ -6,7 +6,9 @@ ghost use Rattle.kb_catalog.specs.declared.version.Plan.{Plan};
 ghost use Rattle.kb_catalog.specs.declared.version.Phase.{Phase};
 ghost use Rattle.kb_catalog.specs.declared.version.Price.{Price};
 ghost use Rattle.kb_catalog.specs.Products.{has_product};
-ghost use Rattle.kb_catalog.specs.Plans.{is_unlimited, ends_unlimited, is_evergreen, may_end, kinds_fit, is_no_period, bills_wrongly, has_plan, has_repeat, prices_wrongly, phase_prices_wrongly};
+ghost use Rattle.kb_catalog.specs.Plans.{is_unlimited, ends_unlimited, is_evergreen, may_end, kinds_fit};
+ghost use Rattle.kb_catalog.specs.Plans.{is_no_period, bills_wrongly, has_plan, has_repeat, prices_wrongly};
+ghost use Rattle.kb_catalog.specs.Plans.{phase_prices_wrongly};
 
 use crate::check::products::{has_currency, has_product, is_empty};
 use crate::{Phase, PhaseType, Plan, Price, Version};
@@ -40,7 +42,8 @@ fn is_among(plans: &[Plan], name: &Name) -> bool
 
 /// Whether the product of the plan at a place isn't there.
 pub(super) fn misses_product_at(version: &Version, place: usize) -> bool
-    ensures { result ≡ passes_at version.now.plans place (λ (plan : Plan). not (has_product version.now plan.product)) }
+    ensures { result ≡ passes_at version.now.plans place
+        (λ (plan : Plan). not (has_product version.now plan.product)) }
 {
     let plans = version.plans.as_slice();
     plans
@@ -71,7 +74,8 @@ pub(super) fn kinds_misfit_at(version: &Version, place: usize) -> bool
 
 /// Whether a phase of the plan at a place has one of a billing period and a recurring price.
 pub(super) fn bills_wrongly_at(version: &Version, place: usize) -> bool
-    ensures { result ≡ passes_at version.now.plans place (λ (plan : Plan). list_any bills_wrongly plan.phases) }
+    ensures { result ≡ passes_at version.now.plans place
+        (λ (plan : Plan). list_any bills_wrongly plan.phases) }
 {
     let plans = version.plans.as_slice();
     plans
@@ -81,7 +85,8 @@ pub(super) fn bills_wrongly_at(version: &Version, place: usize) -> bool
 
 /// Whether a price of the plan at a place names a currency that isn't there, or one twice.
 pub(super) fn prices_wrongly_at(version: &Version, place: usize) -> bool
-    ensures { result ≡ passes_at version.now.plans place (λ (plan : Plan). list_any (phase_prices_wrongly version.now.currencies) plan.phases) }
+    ensures { result ≡ passes_at version.now.plans place
+        (λ (plan : Plan). list_any (phase_prices_wrongly version.now.currencies) plan.phases) }
 {
     let currencies = version.currencies.as_slice();
     let plans = version.plans.as_slice();
@@ -162,7 +167,8 @@ fn prices_wrongly(currencies: &[Currency], prices: &[Price]) -> bool
 
 /// Whether one of these prices names a currency that isn't among these.
 fn misses_currency(currencies: &[Currency], prices: &[Price]) -> bool
-    ensures { result ≡ list_any (λ (price : Price). not (list_any (bytes_eq price.currency) currencies.now)) prices.now }
+    ensures { result ≡ list_any (λ (price : Price). not (list_any (bytes_eq price.currency) currencies.now))
+        prices.now }
 {
     prices
         .iter()

@@ -3,7 +3,8 @@ ghost use Rattle.std.specs.Prelude.{◌≡◌, ◌||◌, bytes_eq, not};
 ghost use Rattle.std.specs.List.{list_any};
 ghost use Rattle.kb_base.specs.Offenders.{passes_at, repeats_at};
 ghost use Rattle.kb_catalog.specs.declared.version.Product.{Product};
-ghost use Rattle.kb_catalog.specs.Products.{is_empty, has_name, has_product, is_base, is_add_on, has_add_on, listed, lists_wrongly, lists_twice};
+ghost use Rattle.kb_catalog.specs.Products.{is_empty, has_name, has_product, is_base, is_add_on, has_add_on};
+ghost use Rattle.kb_catalog.specs.Products.{listed, lists_wrongly, lists_twice};
 
 use crate::{Category, Product, Version};
 use kb_days::Name;
@@ -36,7 +37,8 @@ pub(super) fn has_currency(currencies: &[Currency], currency: Currency) -> bool
 
 /// Whether the name of the product at a place stands earlier.
 pub(super) fn name_repeats(version: &Version, place: usize) -> bool
-    ensures { result ≡ repeats_at (λ (a : Product) (b : Product). bytes_eq a.name b.name) version.now.products place }
+    ensures { result ≡ repeats_at (λ (a : Product) (b : Product). bytes_eq a.name b.name) version.now.products
+        place }
 {
     let products = version.products.as_slice();
     match products.get(place) {

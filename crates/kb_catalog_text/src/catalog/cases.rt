@@ -1,7 +1,8 @@
 //! The cases of the five rule lists.
 ghost use Rattle.toml.specs.View.{table_view};
 ghost use Rattle.kb_catalog_text.specs.Reads.{IsRead, read_table};
-ghost use Rattle.kb_catalog_text.specs.CatalogText.{change_policy_in, change_alignment_in, cancel_in, create_in, billing_in};
+ghost use Rattle.kb_catalog_text.specs.CatalogText.{change_policy_in, change_alignment_in, cancel_in};
+ghost use Rattle.kb_catalog_text.specs.CatalogText.{create_in, billing_in};
 
 use crate::catalog::condition::{from_conditions, plan_conditions, to_conditions};
 use crate::from_value::{FromValue, optional, required, table_of};

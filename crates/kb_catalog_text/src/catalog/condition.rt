@@ -1,7 +1,8 @@
 //! The conditions of a case on a plan.
 ghost use Rattle.toml.specs.View.{table_view};
 ghost use Rattle.kb_catalog_text.specs.Reads.{IsRead};
-ghost use Rattle.kb_catalog_text.specs.CatalogText.{condition_in, plan_conditions_in, from_conditions_in, to_conditions_in};
+ghost use Rattle.kb_catalog_text.specs.CatalogText.{condition_in, plan_conditions_in, from_conditions_in};
+ghost use Rattle.kb_catalog_text.specs.CatalogText.{to_conditions_in};
 
 use crate::from_value::optional;
 use crate::key_fault::KeyFault;
@@ -53,7 +54,8 @@ fn read_conditions(
     period_key: &str,
     list_key: &str,
 ) -> Result<PlanCondition, KeyFault>
-    ensures { IsRead result (condition_in product_key.now category_key.now period_key.now list_key.now (table_view table.now)) }
+    ensures { IsRead result (condition_in product_key.now category_key.now period_key.now list_key.now
+        (table_view table.now)) }
 {
     let product = optional(alloc, table, product_key)?;
     let category = optional(alloc, table, category_key)?;

@@ -2,7 +2,8 @@
 ghost use Rattle.std.specs.Prelude.{◌≡◌, Ok};
 ghost use Rattle.toml.specs.View.{table_view, view};
 ghost use Rattle.kb_catalog_text.specs.Reads.{IsRead, read_table, keys_read, is_among};
-ghost use Rattle.kb_catalog_text.specs.CatalogText.{phase_in, phase_keys, is_unlimited_in, is_word, span_in, length_in, is_counted, span_of};
+ghost use Rattle.kb_catalog_text.specs.CatalogText.{phase_in, phase_keys, is_unlimited_in, is_word, span_in};
+ghost use Rattle.kb_catalog_text.specs.CatalogText.{length_in, is_counted, span_of};
 
 use crate::catalog::prices::prices_at;
 use crate::from_value::{FromValue, read_or, required, table_of, value_at};
@@ -44,7 +45,8 @@ fn read_phase(alloc: Global, table: &Table) -> Result<Phase, KeyFault>
 
 /// Refuses the first key that a phase may not have: an unlimited one has no length.
 fn known_phase_keys(alloc: Global, table: &Table) -> Result<(), KeyFault>
-    ensures { IsRead result (keys_read (is_among (phase_keys (is_unlimited_in (table_view table.now)))) (table_view table.now)) }
+    ensures { IsRead result (keys_read (is_among (phase_keys (is_unlimited_in (table_view table.now))))
+        (table_view table.now)) }
 {
     if is_unlimited(table) {
         let keys = Among {

@@ -17,7 +17,8 @@ returns-in-Some c =
           c.period_of_days.ensures.longest;
       longest = c.period_of_days.ensures.longest;
       tiles =
-          λ other from to. IsPeriodOf-tiles c.args.start c.args.period c.args.bcd c.args.day _ _ other from to is;
+          λ other from to. IsPeriodOf-tiles c.args.start c.args.period c.args.bcd c.args.day _ _ other from to
+          is;
     }
 
 pub returns-in-None : goal.returns-in-None
@@ -32,5 +33,6 @@ returns-in-None c =
           c.period_of_months.ensures.longest;
       longest = c.period_of_months.ensures.longest;
       tiles =
-          λ other from to. IsPeriodOf-tiles c.args.start c.args.period c.args.bcd c.args.day _ _ other from to is;
+          λ other from to. IsPeriodOf-tiles c.args.start c.args.period c.args.bcd c.args.day _ _ other from to
+          is;
     }

@@ -18,10 +18,12 @@ loop-place-preserved c =
     (elim c.match-begun_phase.branch [
       | in-Some w ↦
           rw w.last-is
-          (sym (next (Some w.in-Some.begun) c.loop-place-test.true span.is w.in-Some.ensures) ∙ walk.invariant)
+          (sym (next (Some w.in-Some.begun) c.loop-place-test.true span.is w.in-Some.ensures)
+          ∙ walk.invariant)
       | in_default w ↦
           rw w.last-is
-          (sym (next None c.loop-place-test.true span.is (sym w.in_default.is ∙ c.begun_phase.ensures)) ∙ walk.invariant)
+          (sym (next None c.loop-place-test.true span.is (sym w.in_default.is ∙ c.begun_phase.ensures))
+          ∙ walk.invariant)
     ])
 
 pub returns : goal.returns

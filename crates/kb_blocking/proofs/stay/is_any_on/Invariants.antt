@@ -6,4 +6,5 @@ use Rattle.kb_blocking.proofs.stay.is_any_on.Given as goal
 
 abbrev pub invariant-loop-stay : goal.invariant-loop-stay
 invariant-loop-stay l =
-    list_any (counts_on l.chain l.flag l.day) (drop l.stay-index l.stays) ≡ list_any (counts_on l.chain l.flag l.day) l.stays
+    list_any (counts_on l.chain l.flag l.day) (drop l.stay-index l.stays)
+    ≡ list_any (counts_on l.chain l.flag l.day) l.stays

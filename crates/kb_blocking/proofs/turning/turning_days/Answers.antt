@@ -19,8 +19,10 @@ returns-clause-exactly c =
     IfOk-weaker c.turn_days.result (λ days. days.items ≡ turn_days c.deref.result.now)
     (λ days. (day : ℕ) → Contains days.items day
     ↔
-    (differ (list_any (counts_on c.args.chain c.args.flag day) stays) (list_any (counts_on c.args.chain c.args.flag (day - 1)) stays) ≡ true))
-    (λ days is. rw (is, c.deref.ensures.value) (turn_days-exactly c.args.chain c.args.flag stays stretches are))
+    (differ (list_any (counts_on c.args.chain c.args.flag day) stays)
+    (list_any (counts_on c.args.chain c.args.flag (day - 1)) stays) ≡ true))
+    (λ days is. rw (is, c.deref.ensures.value) (turn_days-exactly c.args.chain c.args.flag stays stretches
+    are))
     c.turn_days.ensures
 
 pub returns-clause-rising : goal.returns-clause-rising

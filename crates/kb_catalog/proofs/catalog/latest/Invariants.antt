@@ -7,4 +7,5 @@ use Rattle.kb_catalog.proofs.catalog.latest.Given as goal
 
 abbrev pub invariant-loop-place : goal.invariant-loop-place
 invariant-loop-place l =
-    or_found (version_at_from l.place (map arc_value (drop l.place l.versions)) l.day) l.found ≡ version_at (map arc_value l.versions) l.day
+    or_found (version_at_from l.place (map arc_value (drop l.place l.versions)) l.day) l.found
+    ≡ version_at (map arc_value l.versions) l.day

@@ -6,7 +6,8 @@ use Rattle.kb_catalog_text.proofs.from_value.optional.Goals as goal
 pub returns-in_err-read-in-Some : goal.returns-in_err-read-in-Some
 returns-in_err-read-in-Some g c =
     let there = sym (rw c.in-Some.is at c.value_at.ensures) in
-    told _ _ _ c.from_residual.ensures (λ kept. optional-fault _ _ _ _ _ there (c.in_err-read-in-Some.ensures kept))
+    told _ _ _ c.from_residual.ensures (λ kept. optional-fault _ _ _ _ _ there
+    (c.in_err-read-in-Some.ensures kept))
 
 pub returns-in_ok-read-in-Some : goal.returns-in_ok-read-in-Some
 returns-in_ok-read-in-Some g c =

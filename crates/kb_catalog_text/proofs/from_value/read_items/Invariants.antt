@@ -6,5 +6,6 @@ use Rattle.kb_catalog_text.proofs.from_value.read_items.Given as goal
 
 abbrev pub invariant-loop-item : goal.invariant-loop-item
 invariant-loop-item g l =
-    and_then (read_items g.T.FromValue.reads l.key (items_view (drop l.item-index l.items))) (λ rest. Ok (l.elements ++ rest))
+    and_then (read_items g.T.FromValue.reads l.key (items_view (drop l.item-index l.items)))
+    (λ rest. Ok (l.elements ++ rest))
     ≡ read_items g.T.FromValue.reads l.key (items_view l.items)

@@ -9,8 +9,10 @@ returns-then-not-knows g c =
     let known = g.K.Keys.known c.args.keys.now in
     let fails : known (string_bytes c.in-Some.key.now) ≡ false =
     rw (← c.as_str.ensures.value) (sym c.knows.ensures ∙ c.if-not-knows.true) in
-    let here = first_failing-here known (string_bytes c.in-Some.key.now) (view c.in-Some.field-0-1.now) (members_view c.next.new.self) fails in
-    let all = ap (λ entries. first_failing known (members_view entries)) (sym c.in-Some.ensures.steps) ∙ c.loop-key.invariant in
+    let here = first_failing-here known (string_bytes c.in-Some.key.now) (view c.in-Some.field-0-1.now)
+    (members_view c.next.new.self) fails in
+    let all = ap (λ entries. first_failing known (members_view entries)) (sym c.in-Some.ensures.steps)
+    ∙ c.loop-key.invariant in
     rw c.as_str-then-not-knows.ensures.value (sym here ∙ all)
 
 pub loop-key-preserved : goal.loop-key-preserved
@@ -18,8 +20,10 @@ loop-key-preserved g c =
     let known = g.K.Keys.known c.args.keys.now in
     let passes : known (string_bytes c.in-Some.key.now) ≡ true =
     rw (← c.as_str.ensures.value) (sym c.knows.ensures ∙ c.if-not-knows.false) in
-    let here = first_failing-passed known (string_bytes c.in-Some.key.now) (view c.in-Some.field-0-1.now) (members_view c.next.new.self) passes in
-    let all = ap (λ entries. first_failing known (members_view entries)) (sym c.in-Some.ensures.steps) ∙ c.loop-key.invariant in
+    let here = first_failing-passed known (string_bytes c.in-Some.key.now) (view c.in-Some.field-0-1.now)
+    (members_view c.next.new.self) passes in
+    let all = ap (λ entries. first_failing known (members_view entries)) (sym c.in-Some.ensures.steps)
+    ∙ c.loop-key.invariant in
     sym here ∙ all
 
 pub returns : goal.returns

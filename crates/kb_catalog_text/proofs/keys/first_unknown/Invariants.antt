@@ -6,4 +6,5 @@ use Rattle.kb_catalog_text.proofs.keys.first_unknown.Given as goal
 
 abbrev pub invariant-loop-key : goal.invariant-loop-key
 invariant-loop-key g l =
-    first_failing (g.K.Keys.known l.keys) (members_view l.key-iterator) ≡ first_failing (g.K.Keys.known l.keys) (members_view l.table.entries)
+    first_failing (g.K.Keys.known l.keys) (members_view l.key-iterator)
+    ≡ first_failing (g.K.Keys.known l.keys) (members_view l.table.entries)

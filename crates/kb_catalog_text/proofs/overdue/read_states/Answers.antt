@@ -5,7 +5,8 @@ use Rattle.kb_catalog_text.proofs.overdue.read_states.Goals as goal
 
 pub returns-in_err-known_keys : goal.returns-in_err-known_keys
 unfolding states_in
-returns-in_err-known_keys c = told _ _ _ c.from_residual.ensures (λ kept. rw (c.in_err-known_keys.ensures kept) refl)
+returns-in_err-known_keys c = told _ _ _ c.from_residual.ensures
+    (λ kept. rw (c.in_err-known_keys.ensures kept) refl)
 
 pub returns : goal.returns
 unfolding states_in

@@ -8,5 +8,7 @@ use Rattle.kb_due.proofs.cycle_day.first_billed_start.Given as goal
 
 abbrev pub invariant-loop-phase : goal.invariant-loop-phase
 invariant-loop-phase l =
-    first_billed l.currency (zip (starts_from l.start (map (λ (phase : Phase). phase.span) (drop l.phase-index l.plan.phases))) (drop l.phase-index l.plan.phases))
+    first_billed l.currency (zip (starts_from l.start
+    (map (λ (phase : Phase). phase.span) (drop l.phase-index l.plan.phases)))
+    (drop l.phase-index l.plan.phases))
     ≡ first_billed_start l.currency l.fn.anchor l.plan

@@ -65,7 +65,8 @@ loop-cut-preserved c =
                 c.loop-cut.cut-index before.day before.blocked before.turn
                 (map stretch_of c.loop-cut.found.items) c.loop-cut.invariant.0 to next.blocked next.turn
                 (map stretch_of w.push_between.new.found.items)
-                inside (sym same ∙ sym w.cut_day-to.ensures) later (w.in_ok-push_between.ensures.value c.args.sub)
+                inside (sym same ∙ sym w.cut_day-to.ensures) later
+                (w.in_ok-push_between.ensures.value c.args.sub)
                 (λ are. w.next_standing-standing.ensures.stands facts.blocks chain
                 (subst (AreTurns facts.blocks chain) (sym w.deref.ensures.value) are)),
             w.in_ok-push_between.ensures.short c.loop-cut.invariant.1,

@@ -6,4 +6,5 @@ use Rattle.kb_overdue.proofs.config.first_unconditional.Given as goal
 
 abbrev pub invariant-loop-place : goal.invariant-loop-place
 invariant-loop-place l =
-    first_place_from (is_broken_at l.states Conditions) l.place (length l.states - l.place) ≡ first_offender l.states Conditions
+    first_place_from (is_broken_at l.states Conditions) l.place (length l.states - l.place)
+    ≡ first_offender l.states Conditions

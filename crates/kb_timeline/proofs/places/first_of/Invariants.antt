@@ -9,4 +9,5 @@ abbrev pub invariant-loop-place : goal.invariant-loop-place
 invariant-loop-place l =
     position_from (λ (subscription : Subscription). nat_eq subscription.bundle l.bundle) l.place
     (map arc_value (drop l.place l.subscriptions))
-    ≡ position_from (λ (subscription : Subscription). nat_eq subscription.bundle l.bundle) 0 (map arc_value l.subscriptions)
+    ≡ position_from (λ (subscription : Subscription). nat_eq subscription.bundle l.bundle) 0
+    (map arc_value l.subscriptions)

@@ -9,4 +9,5 @@ abbrev pub invariant-loop-place : goal.invariant-loop-place
 invariant-loop-place l =
     position_from (λ (subscription : Subscription). bytes_eq l.name subscription.name) l.place
     (map arc_value (drop l.place l.subscriptions))
-    ≡ position_from (λ (subscription : Subscription). bytes_eq l.name subscription.name) 0 (map arc_value l.subscriptions)
+    ≡ position_from (λ (subscription : Subscription). bytes_eq l.name subscription.name) 0
+    (map arc_value l.subscriptions)

@@ -12,10 +12,16 @@ returns-clause-exactly c =
     IfOk-weaker c.turning_days.result
     (λ days. (day : ℕ) → Contains days.items day
     ↔
-    (differ (list_any (counts_on c.args.chain c.args.flag day) stays) (list_any (counts_on c.args.chain c.args.flag (day - 1)) stays) ≡ true))
-    (λ days. (day : ℕ) → Contains days.items day ↔ (turns c.args.self.now c.args.chain c.args.flag day ≡ true))
+    (differ (list_any (counts_on c.args.chain c.args.flag day) stays)
+    (list_any (counts_on c.args.chain c.args.flag (day - 1)) stays) ≡ true))
+    (λ days. (day : ℕ) → Contains days.items day ↔ (turns c.args.self.now c.args.chain c.args.flag day
+    ≡ true))
     (λ days exactly day.
-    rw
-    (← c.self.view_is, turns-counts_on c.self.inside.states c.self.inside.stays c.args.chain c.args.flag day c.self.invariant.1, ← c.as_slice.ensures)
+    rw (
+      ← c.self.view_is,
+      turns-counts_on c.self.inside.states c.self.inside.stays c.args.chain c.args.flag day
+          c.self.invariant.1,
+      ← c.as_slice.ensures,
+    )
     (exactly day))
     c.turning_days.ensures.exactly

@@ -10,7 +10,8 @@ use Rattle.kb_catalog.proofs.catalog.Catalog.add.Goals as goal
 
 pub invariant_of-result : goal.invariant_of-result
 invariant_of-result c =
-    let same : map arc_value c.in_ok-versions.versions.items ≡ c.args.self.now ++ c.args.version ∷ [] = grind (arith, common_steps) in
+    let same : map arc_value c.in_ok-versions.versions.items ≡ c.args.self.now ++ c.args.version ∷ [] =
+    grind (arith, common_steps) in
     let sound = subst (λ (versions : List Version). IsCatalog versions) c.self.view_is c.self.invariant in
     let valid = subst (λ (version : Version). IsValid version) c.version.view_is c.version.invariant.0 in
     let room : length c.args.self.now ≡ max_versions → ⊥ = λ full. absurd (grind (arith, common_steps)) in

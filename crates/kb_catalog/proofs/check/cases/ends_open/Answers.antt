@@ -6,5 +6,6 @@ use Rattle.kb_catalog.proofs.check.cases.ends_open.Goals as goal
 pub returns-in-Some : goal.returns-in-Some
 returns-in-Some g c =
     c.is_open.ensures
-    ∙ sym (by_last (ends_open g.C.Case.asks) (λ case. is_open (g.C.Case.asks case)) (λ member. refl) (λ member next later. refl) _ _ _
+    ∙ sym (by_last (ends_open g.C.Case.asks) (λ case. is_open (g.C.Case.asks case)) (λ member. refl)
+    (λ member next later. refl) _ _ _
     c.in-Some.ensures.cases.0)

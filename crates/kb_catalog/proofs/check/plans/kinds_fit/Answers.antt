@@ -6,12 +6,14 @@ use Rattle.kb_catalog.proofs.check.plans.kinds_fit.Goals as goal
 
 pub returns-then-may_end : goal.returns-then-may_end
 returns-then-may_end c =
-    let whole = by_last_alone kinds_fit (λ (phase : Phase). may_end phase.kind) (λ (phase : Phase). is_evergreen phase.kind)
+    let whole = by_last_alone kinds_fit (λ (phase : Phase). may_end phase.kind)
+    (λ (phase : Phase). is_evergreen phase.kind)
     (λ member. refl) (λ member next later. refl) _ _ _ c.in-Some.ensures.cases.0 in
     rw (whole, ← c.may_end.ensures, c.if-may_end.true, c.some_evergreen.ensures) refl
 
 pub returns-else-may_end : goal.returns-else-may_end
 returns-else-may_end c =
-    let whole = by_last_alone kinds_fit (λ (phase : Phase). may_end phase.kind) (λ (phase : Phase). is_evergreen phase.kind)
+    let whole = by_last_alone kinds_fit (λ (phase : Phase). may_end phase.kind)
+    (λ (phase : Phase). is_evergreen phase.kind)
     (λ member. refl) (λ member next later. refl) _ _ _ c.in-Some.ensures.cases.0 in
     rw (whole, ← c.may_end.ensures, c.if-may_end.false) refl

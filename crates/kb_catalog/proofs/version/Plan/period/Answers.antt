@@ -7,5 +7,6 @@ use Rattle.kb_catalog.proofs.version.Plan.period.Goals as goal
 
 pub returns-in-Some : goal.returns-in-Some
 returns-in-Some c =
-    sym (by_last last_period (λ (phase : Phase). phase.period) (λ member. refl) (λ member next later. refl) _ _ _
+    sym (by_last last_period (λ (phase : Phase). phase.period) (λ member. refl) (λ member next later. refl) _
+    _ _
     (rw c.as_slice.ensures at c.in-Some.ensures.cases.0))

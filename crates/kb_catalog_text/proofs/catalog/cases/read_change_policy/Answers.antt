@@ -5,24 +5,46 @@ use Rattle.kb_catalog_text.proofs.catalog.cases.read_change_policy.Goals as goal
 
 pub returns-in_err-known_keys : goal.returns-in_err-known_keys
 unfolding change_policy_in
-returns-in_err-known_keys c = told _ _ _ c.from_residual.ensures (λ kept. rw (c.in_err-known_keys.ensures kept) refl)
+returns-in_err-known_keys c = told _ _ _ c.from_residual.ensures
+    (λ kept. rw (c.in_err-known_keys.ensures kept) refl)
 
 pub returns-in_err-from : goal.returns-in_err-from
 unfolding change_policy_in
-returns-in_err-from c = told _ _ _ c.from_residual-in_err-from.ensures (λ kept. rw (c.in_ok-known_keys.ensures, c.in_err-from.ensures kept) refl)
+returns-in_err-from c = told _ _ _ c.from_residual-in_err-from.ensures
+    (λ kept. rw (c.in_ok-known_keys.ensures, c.in_err-from.ensures kept) refl)
 
 pub returns-in_err-phase : goal.returns-in_err-phase
 unfolding change_policy_in
-returns-in_err-phase c = told _ _ _ c.from_residual-in_err-phase.ensures (λ kept. rw (c.in_ok-known_keys.ensures, c.in_ok-from.ensures, c.in_err-phase.ensures kept) refl)
+returns-in_err-phase c = told _ _ _ c.from_residual-in_err-phase.ensures
+    (λ kept. rw (c.in_ok-known_keys.ensures, c.in_ok-from.ensures, c.in_err-phase.ensures kept) refl)
 
 pub returns-in_err-to : goal.returns-in_err-to
 unfolding change_policy_in
-returns-in_err-to c = told _ _ _ c.from_residual-in_err-to.ensures (λ kept. rw (c.in_ok-known_keys.ensures, c.in_ok-from.ensures, c.in_ok-phase.ensures, c.in_err-to.ensures kept) refl)
+returns-in_err-to c = told _ _ _ c.from_residual-in_err-to.ensures
+    (λ kept. rw (
+      c.in_ok-known_keys.ensures,
+      c.in_ok-from.ensures,
+      c.in_ok-phase.ensures,
+      c.in_err-to.ensures kept,
+    ) refl)
 
 pub returns-in_err-policy : goal.returns-in_err-policy
 unfolding change_policy_in
-returns-in_err-policy c = told _ _ _ c.from_residual-in_err-policy.ensures (λ kept. rw (c.in_ok-known_keys.ensures, c.in_ok-from.ensures, c.in_ok-phase.ensures, c.in_ok-to.ensures, c.in_err-policy.ensures kept) refl)
+returns-in_err-policy c = told _ _ _ c.from_residual-in_err-policy.ensures
+    (λ kept. rw (
+      c.in_ok-known_keys.ensures,
+      c.in_ok-from.ensures,
+      c.in_ok-phase.ensures,
+      c.in_ok-to.ensures,
+      c.in_err-policy.ensures kept,
+    ) refl)
 
 pub returns : goal.returns
 unfolding change_policy_in
-returns c = rw (c.in_ok-known_keys.ensures, c.in_ok-from.ensures, c.in_ok-phase.ensures, c.in_ok-to.ensures, c.in_ok-policy.ensures) refl
+returns c = rw (
+  c.in_ok-known_keys.ensures,
+  c.in_ok-from.ensures,
+  c.in_ok-phase.ensures,
+  c.in_ok-to.ensures,
+  c.in_ok-policy.ensures,
+) refl

@@ -10,8 +10,13 @@ returns-then-not-is_counted c = rw (← c.is_counted.ensures, c.if-not-is_counte
 pub returns-in_err-count : goal.returns-in_err-count
 unfolding length_in
 returns-in_err-count c =
-    told _ _ _ c.from_residual.ensures (λ kept. rw (← c.is_counted.ensures, c.if-not-is_counted.false, c.in_err-count.ensures kept) refl)
+    told _ _ _ c.from_residual.ensures (λ kept. rw (
+      ← c.is_counted.ensures,
+      c.if-not-is_counted.false,
+      c.in_err-count.ensures kept,
+    ) refl)
 
 pub returns : goal.returns
 unfolding length_in
-returns c = rw (← c.is_counted.ensures, c.if-not-is_counted.false, c.in_ok-count.ensures, c.span_of.ensures) refl
+returns c = rw (← c.is_counted.ensures, c.if-not-is_counted.false, c.in_ok-count.ensures, c.span_of.ensures)
+    refl

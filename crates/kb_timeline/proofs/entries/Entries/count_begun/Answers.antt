@@ -14,5 +14,7 @@ returns-clause-begun c =
     let point =
     IsPartitionPoint-from_clause (λ (entry : Entry). nat_le entry.day day) _ _
     c.partition_point.ensures.partitioned parted (λ a r q k. search rules) in
-    subst (λ (entries : List Entry). AreBegun entries day c.partition_point.result) c.as_slice.ensures.same
-    ((λ k d low high. leb-true _ day (point.0 k d low high)), (λ k d low high. leb-false _ day (point.1 k d low high)))
+    subst (λ (entries : List Entry). AreBegun entries day c.partition_point.result) c.as_slice.ensures.same (
+      (λ k d low high. leb-true _ day (point.0 k d low high)),
+      (λ k d low high. leb-false _ day (point.1 k d low high)),
+    )

@@ -1,6 +1,7 @@
 -- The days of changes rise: a binary search counts those before a day.
 use Rattle.std.proofs.Common.{List, length, drop, add-one, nat_lt, subst, ap, rules, arith}
-use Rattle.std.proofs.lemmas.List.Sorted.{IsPartitionPoint-from_clause, IsPartitionedBy-ltb, IsNonDecreasingBy-drop}
+use Rattle.std.proofs.lemmas.List.Sorted.{IsPartitionPoint-from_clause, IsPartitionedBy-ltb}
+use Rattle.std.proofs.lemmas.List.Sorted.{IsNonDecreasingBy-drop}
 use Rattle.kb_timeline.specs.declared.entry.Entry.{Entry}
 use Rattle.kb_timeline.proofs.BegunEntries.{IsNonDecreasingBy-entries}
 use Rattle.kb_timeline.proofs.ChangedEntries.{AreEarlier, kept_by_change-take}
@@ -22,4 +23,5 @@ returns-clause-kept c =
     let earlier =
     subst (λ (changes : List Entry). AreEarlier changes day count) c.changes.ensures.same point in
     rw add-one
-    (kept_by_change-take entries day count c.changes.ensures.sound.started (omega (arith, ap length c.changes.ensures.same)) earlier)
+    (kept_by_change-take entries day count c.changes.ensures.sound.started
+    (omega (arith, ap length c.changes.ensures.same)) earlier)

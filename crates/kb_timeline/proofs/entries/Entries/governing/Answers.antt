@@ -1,6 +1,7 @@
 -- The last of the entries up to a day governs it.
 use Rattle.std.proofs.Common.{◌≡◌, ℕ, suc, ◌-◌, refl, sym, subst, arith}
-use Rattle.kb_timeline.proofs.BegunEntries.{AreBegun, entry_on-none, entry_on-last, is_before_start-none, is_before_start-some}
+use Rattle.kb_timeline.proofs.BegunEntries.{AreBegun, entry_on-none, entry_on-last, is_before_start-none}
+use Rattle.kb_timeline.proofs.BegunEntries.{is_before_start-some}
 use Rattle.kb_timeline.proofs.entries.Entries.governing.Goals as goal
 
 pub returns-then-count-eq0-clause-entry : goal.returns-then-count-eq0-clause-entry
@@ -14,8 +15,11 @@ pub returns-then-count-eq0-clause-before : goal.returns-then-count-eq0-clause-be
 returns-then-count-eq0-clause-before c =
     let begun =
     subst (λ (count : ℕ). AreBegun c.args.self.now c.args.day count) c.if-count-eq0.true
-    c.count_begun-count.ensures.begun in
-    ((λ none. is_before_start-none c.args.self.now c.args.day c.count_begun-count.ensures.sound.started begun), (λ before. refl))
+    c.count_begun-count.ensures.begun in (
+      (λ none. is_before_start-none c.args.self.now c.args.day c.count_begun-count.ensures.sound.started
+          begun),
+      (λ before. refl),
+    )
 
 pub returns-else-count-eq0-clause-entry : goal.returns-else-count-eq0-clause-entry
 returns-else-count-eq0-clause-entry c =

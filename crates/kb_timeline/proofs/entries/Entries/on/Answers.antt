@@ -6,4 +6,5 @@ use Rattle.kb_timeline.proofs.entries.Entries.on.Goals as goal
 pub returns-in-Some-clause-dated : goal.returns-in-Some-clause-dated
 returns-in-Some-clause-dated c =
     entry_on-dated c.args.self.now c.args.day c.at.result
-    (c.at.ensures ∙ ap (option_and_then (slice_get c.args.self.now)) (sym c.in-Some.is) ∙ c.governing.ensures.entry)
+    (c.at.ensures ∙ ap (option_and_then (slice_get c.args.self.now)) (sym c.in-Some.is)
+    ∙ c.governing.ensures.entry)

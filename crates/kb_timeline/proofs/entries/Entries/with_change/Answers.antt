@@ -14,7 +14,12 @@ invariant_of-result c =
     let sound =
     subst (λ (all : List Entry). IsEntries all) c.as_slice.ensures.same c.as_slice.ensures.sound in
     let room : length (with_change entries c.args.change) ≤ max_entries =
-    omega
-    (arith, length_push (kept_by_change c.args.change.day entries) c.args.change, ap length c.count_kept-kept.ensures.kept, length-take c.count_kept-kept.result entries, sound.limit) in
+    omega (
+      arith,
+      length_push (kept_by_change c.args.change.day entries) c.args.change,
+      ap length c.count_kept-kept.ensures.kept,
+      length-take c.count_kept-kept.result entries,
+      sound.limit,
+    ) in
     subst (λ (all : List Entry). IsEntries all) (sym same)
     (IsEntries-with_change entries c.args.change sound c.requires.begun room)

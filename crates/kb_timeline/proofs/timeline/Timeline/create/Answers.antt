@@ -10,7 +10,11 @@ pub invariant_of-result : goal.invariant_of-result
 invariant_of-result c =
     let longer = created c.args.self.now c.args.bundle c.args.name c.args.addon c.args.first in
     let value : TimelineValue =
-    record { bundles = c.in_ok-bundles.bundles; subscriptions = map arc_value c.in_ok-subscriptions.subscriptions.items } in
+    record {
+      bundles = c.in_ok-bundles.bundles;
+      subscriptions =
+          map arc_value c.in_ok-subscriptions.subscriptions.items;
+    } in
     let same : value ≡ longer = grind (arith, common_steps) in
     let none : create_fault c.args.self.now c.args.name ≡ None = grind (arith, common_steps) in
     let sound = subst (λ (timeline : TimelineValue). IsTimeline timeline) c.self.view_is c.self.invariant in

@@ -10,8 +10,13 @@ pub invariant_of-result : goal.invariant_of-result
 invariant_of-result c =
     let edited = with_edit c.args.self.now c.args.sub (λ (old : Subscription). c.args.subscription) in
     let value : TimelineValue =
-    record { bundles = c.in_ok-bundles.bundles; subscriptions = map arc_value c.in_ok-subscriptions.subscriptions.items } in
+    record {
+      bundles = c.in_ok-bundles.bundles;
+      subscriptions =
+          map arc_value c.in_ok-subscriptions.subscriptions.items;
+    } in
     let same : value ≡ edited = search rules in
     let sound = subst (λ (timeline : TimelineValue). IsTimeline timeline) c.self.view_is c.self.invariant in
     subst (λ (timeline : TimelineValue). IsTimeline timeline) (sym same)
-    (IsTimeline-with_edit c.args.self.now c.args.sub c.args.subscription sound c.requires.there c.requires.same)
+    (IsTimeline-with_edit c.args.self.now c.args.sub c.args.subscription sound c.requires.there
+    c.requires.same)
