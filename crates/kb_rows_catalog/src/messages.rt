@@ -1,0 +1,89 @@
+//! What faults tell a shop.
+
+use kb_catalog::{AddFault, CatalogFault, Rule};
+use kb_catalog_text::{read, read_overdue};
+use kb_overdue::{ConfigFault, ConfigRule};
+use std::alloc::Global;
+use std::test::Fail;
+
+#[test]
+fn faults_of_catalogs(rt: HostRuntime) -> Result<(), Fail> {
+    let order = AddFault::VersionOrder.to_string(rt.alloc())?;
+    assert_eq!(rt;
+        order.as_str(),
+        "the version isn't after the last one: give it a later date"
+    );
+    let limit = AddFault::Limit.to_string(rt.alloc())?;
+    assert_eq!(rt;
+        limit.as_str(),
+        "the catalog has 64 versions and takes no more"
+    );
+    let fault = CatalogFault {
+        rule: Rule::PlanProducts,
+        index: 2,
+    };
+    let told = fault.to_string(rt.alloc())?;
+    let answer =
+        "rule 6, at place 2 from 0: a plan's product isn't there: add the product, or name another one";
+    assert_eq!(rt; told.as_str(), answer);
+    Ok(())
+}
+
+#[test]
+fn faults_of_overdue_states(rt: HostRuntime) -> Result<(), Fail> {
+    let fault = ConfigFault {
+        rule: ConfigRule::Count,
+        index: 16,
+    };
+    let told = fault.to_string(rt.alloc())?;
+    let answer = "rule 1, at place 16 from 0: there are more than 16 states: take some out";
+    assert_eq!(rt; told.as_str(), answer);
+    Ok(())
+}
+
+#[test]
+fn faults_of_texts(rt: HostRuntime) -> Result<(), Fail> {
+    const ROWS: [(&str, &str); 5] = [
+        (
+            "state",
+            "the text isn't TOML: correct what a TOML reader complains of",
+        ),
+        ("state = [{}]", "the key 'name' is missing: add it"),
+        (
+            "state = 5",
+            "the value at the key 'state' is of another kind or out of range: correct it",
+        ),
+        (
+            "states = 5",
+            "the key 'states' isn't known in its table: take it out, or spell it otherwise",
+        ),
+        (
+            "[[state]]\nname='CLEAR'\nblock_change=true\nblock_entitlement=true\nblock_billing=true",
+            "rule 2 is broken, first at place 0 from 0 of what it speaks of: correct what stands there",
+        ),
+    ];
+    for (text, answer) in &ROWS {
+        let message = overdue_message(rt.alloc(), text)?;
+        assert_eq!(rt; message.as_str(), *answer, "{text}");
+    }
+    Ok(())
+}
+
+/// What is told of an overdue text that is refused.
+fn overdue_message(alloc: Global, text: &str) -> Result<String, Fail> {
+    let fault = read_overdue(alloc, text.as_bytes().to_vec(alloc)?).err();
+    Ok(fault.ok_or("a fault")?.to_string(alloc)?)
+}
+
+#[test]
+fn the_fault_of_a_long_text(rt: HostRuntime) -> Result<(), Fail> {
+    let mut text = Vec::new(rt.alloc());
+    text.resize(60_001, b' ')?;
+    let fault = read(rt.alloc(), text).err().ok_or("a fault")?;
+    let told = fault.to_string(rt.alloc())?;
+    assert_eq!(rt;
+        told.as_str(),
+        "the text has 60001 bytes: shorten it to 60000"
+    );
+    Ok(())
+}

@@ -1,0 +1,105 @@
+//! Whatever the bytes of a text, an answer is told.
+
+use crate::told::{told, told_overdue};
+use std::alloc::{AllocError, Global};
+use std::process::Abort;
+use std::test::Fail;
+
+#[test]
+fn few_bytes(rt: HostRuntime) -> Result<(), Fail> {
+    // the bytes, and the answers as a catalog text and as an overdue text
+    const ROWS: [(&[u8], &str, &str); 12] = [
+        (b"", "2 format", "ok"),
+        (b"\n", "2 format", "ok"),
+        (b"# a note", "2 format", "ok"),
+        (b"\xff", "1", "1"),
+        (b"\x00", "1", "1"),
+        (b"# \x00", "1", "1"),
+        (b"# \xff", "1", "1"),
+        (b"# \xc3", "1", "1"),
+        (b"a = '\xed\xa0\x80'", "1", "1"),
+        (b"\xef\xbb\xbfformat = 2", "3 format", "4 format"),
+        (b"format = 1\nformat = 1", "1", "1"),
+        (b"format", "1", "1"),
+    ];
+    for (bytes, catalog, overdue) in &ROWS {
+        let told = told(rt.alloc(), bytes)?;
+        assert_eq!(rt; told.as_str(), *catalog, "{bytes:?}");
+        overdue_is_told(&rt, rt.alloc(), bytes, overdue)?;
+    }
+    Ok(())
+}
+
+#[test]
+fn many_bytes(rt: HostRuntime) -> Result<(), Fail> {
+    // a piece, how many times it stands, and the answers
+    const ROWS: [(&str, u32, &str, &str); 16] = [
+        ("[", 60_000, "1", "1"),
+        ("[", 60_001, "7 60001", "7 60001"),
+        ("]", 60_000, "1", "1"),
+        ("{", 60_000, "1", "1"),
+        ("\"", 60_000, "1", "1"),
+        ("\0", 60_000, "1", "1"),
+        ("\n", 60_000, "2 format", "ok"),
+        ("a", 60_000, "1", "1"),
+        ("a.", 30_000, "1", "1"),
+        ("a=[", 20_000, "1", "1"),
+        ("a={", 20_000, "1", "1"),
+        ("state=1\n", 1_000, "1", "1"),
+        ("[a]\n", 1_000, "1", "1"),
+        ("[[a]]\n", 1_000, "4 a", "4 a"),
+        ("[[state]]\n", 1_000, "4 state", "2 name"),
+        ("é", 30_000, "1", "1"),
+    ];
+    for (piece, times, catalog, overdue) in &ROWS {
+        let mut text = String::new(rt.alloc());
+        push_repeated(&mut text, piece, *times)?;
+        let told = told(rt.alloc(), text.as_bytes())?;
+        assert_eq!(rt; told.as_str(), *catalog, "{piece} {times}");
+        overdue_is_told(&rt, rt.alloc(), text.as_bytes(), overdue)?;
+    }
+    Ok(())
+}
+
+fn overdue_is_told(rt: &impl Abort, alloc: Global, bytes: &[u8], answer: &str) -> Result<(), Fail> {
+    let told = told_overdue(alloc, bytes)?;
+    let begin = bytes.get(..12).unwrap_or(bytes);
+    assert_eq!(rt; told.as_str(), answer, "{begin:?} of {}", bytes.len());
+    Ok(())
+}
+
+#[test]
+fn deep_values(rt: HostRuntime) -> Result<(), Fail> {
+    // what opens and closes a value, how deep, and the answer as an overdue text
+    const ROWS: [(&str, &str, u32, &str); 7] = [
+        ("[", "]", 80, "3 state"),
+        ("[", "]", 81, "1"),
+        ("{a=", "}", 80, "3 state"),
+        ("{a=", "}", 81, "1"),
+        ("[", "]", 1_000, "1"),
+        ("{a=", "}", 1_000, "1"),
+        ("[", "]", 29_000, "1"),
+    ];
+    for (open, close, times, answer) in &ROWS {
+        let text = deep_state(rt.alloc(), open, close, *times)?;
+        let told = told_overdue(rt.alloc(), text.as_bytes())?;
+        assert_eq!(rt; told.as_str(), *answer, "{open} {times}");
+    }
+    Ok(())
+}
+
+/// An overdue text whose value lies so deep.
+fn deep_state(alloc: Global, open: &str, close: &str, times: u32) -> Result<String, Fail> {
+    let mut text = String::from_str(alloc, "state=")?;
+    push_repeated(&mut text, open, times)?;
+    text.push('1')?;
+    push_repeated(&mut text, close, times)?;
+    Ok(text)
+}
+
+fn push_repeated(text: &mut String, piece: &str, times: u32) -> Result<(), AllocError> {
+    for _ in 0..times {
+        text.push_str(piece)?;
+    }
+    Ok(())
+}
