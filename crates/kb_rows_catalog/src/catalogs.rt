@@ -63,7 +63,8 @@ fn the_version_of_a_day(rt: HostRuntime) -> Result<(), Fail> {
 
 #[test]
 fn versions_that_are_added(rt: HostRuntime) -> Result<(), Fail> {
-    // how many versions are there, the date of the one more, and how many there are then, or why it isn't added
+    // how many versions are there, the date of the one more, and how many there are then, or why it isn't
+    // added
     const ROWS: [(u32, &str, Result<u32, AddFault>); 8] = [
         (0, "2000-01-01", Ok(1)),
         (1, "2024-10-05", Ok(2)),

@@ -1,7 +1,7 @@
 //! The rows of catalogs: what versions, texts and overdue states answer, in tables that a person worked out.
 //!
-//! The rule kept here: catalogs and states are read from texts, so that a row is a text and an answer. A crate below
-//! isn't proved again with its tests, which stand here.
+//! The rule kept here: catalogs and states are read from texts, so that a row is a text and an answer. A
+//! crate below isn't proved again with its tests, which stand here.
 #![tactic(auto)]
 
 #[cfg(test)]

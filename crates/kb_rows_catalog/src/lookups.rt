@@ -12,7 +12,8 @@ use std::alloc::Global;
 use std::process::Abort;
 use std::test::Fail;
 
-/// Two lists, of which SALE sells another plan for Basic and a month, and one for a year; and rules of their own.
+/// Two lists, of which SALE sells another plan for Basic and a month, and one for a year; and rules of their
+/// own.
 const TWO_LISTS: &str = r#"
 list = [
  {name="DEFAULT", plans=["basic-monthly", "pro-monthly"]},

@@ -6,8 +6,8 @@ use kb_overdue::{Config, OverdueState, Threshold};
 use std::alloc::Global;
 use std::test::Fail;
 
-/// A text of states, one for each letter: a capital has a condition, a small letter has none, and a star is named
-/// CLEAR.
+/// A text of states, one for each letter: a capital has a condition, a small letter has none, and a star is
+/// named CLEAR.
 fn text_of(alloc: Global, letters: &str) -> Result<String, Fail> {
     let mut text = String::new(alloc);
     for letter in letters.chars() {

@@ -1,5 +1,5 @@
-//! Each rule of a version is told by its number and its first offender: the shop with a part more, or with another one.
-//! The rows are read by the tests of the shop's text.
+//! Each rule of a version is told by its number and its first offender: the shop with a part more, or with
+//! another one. The rows are read by the tests of the shop's text.
 
 use kb_catalog::Rule;
 

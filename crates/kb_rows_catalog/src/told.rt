@@ -14,7 +14,8 @@ pub(crate) fn valid(alloc: Global, text: &str) -> Result<Valid, Fail> {
     }
 }
 
-/// What is told of a catalog text: `ok`, or the number of its fault with the key, the rule and place, or the length.
+/// What is told of a catalog text: `ok`, or the number of its fault with the key, the rule and place, or the
+/// length.
 pub(crate) fn told(alloc: Global, text: &[u8]) -> Result<String, Fail> {
     match read(alloc, text.to_vec(alloc)?) {
         Ok(_) => Ok(String::from_str(alloc, "ok")?),

@@ -6,8 +6,8 @@ use kb_days::Period;
 use std::process::Abort;
 use std::test::Fail;
 
-/// The product, category and phase that govern; the product, period and list that are asked for; and what the rules of
-/// a change give.
+/// The product, category and phase that govern; the product, period and list that are asked for; and what the
+/// rules of a change give.
 type Row = (
     &'static str,
     Option<Category>,

@@ -8,8 +8,8 @@ use kb_samples::SHOP;
 use std::process::Abort;
 use std::test::Fail;
 
-/// The product of an annual plan that governs, and its category; the product and period that are asked for; the policy
-/// of the change; and the cancel policy and the alignment of a start of the one that governs.
+/// The product of an annual plan that governs, and its category; the product and period that are asked for;
+/// the policy of the change; and the cancel policy and the alignment of a start of the one that governs.
 type Row = (
     &'static str,
     Option<Category>,
