@@ -7,7 +7,7 @@ use kb_catalog::Rule;
 fn the_rules_are_numbered(rt: HostRuntime) {
     let mut number = 0;
     for rule in Rule::ALL {
-        assert!(rt; rule.number() == number + 1, "{number}");
+        assert!(rt; rule.number() > number, "{}", rule.number());
         number = rule.number();
     }
     assert_eq!(rt; number, 12);
