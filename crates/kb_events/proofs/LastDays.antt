@@ -92,8 +92,8 @@ charged-runs facts sub billed (first ∷ later) are early =
     by_last zero e is some = absurd (omega (arith, e, some))
     by_last (suc before) e is some = rw (is, e) refl
 
--- the last piece tells until when a subscription is charged, where nothing is due before the days on which
--- cells are told
+-- the last piece tells until when a subscription is charged, where nothing is due before the days that
+-- may be charged
 pub charged-last : (facts : FactsValue) (sub billed : ℕ) (found : List Piece)
     → map stretch_of found ≡ pieces facts sub billed
     → ((day : ℕ) → day < first_day → due_on facts sub billed day ≡ None)

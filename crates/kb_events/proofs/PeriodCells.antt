@@ -4,7 +4,7 @@ use Rattle.std.proofs.Common.{◌∙◌, arith}
 use Rattle.std.proofs.lemmas.Bool.{lt-leb}
 use Rattle.kb_catalog.specs.Plans.{is_no_period, price_in}
 use Rattle.kb_align.specs.Boundaries.{IsPeriodOf}
-use Rattle.kb_align.specs.PeriodDays.{period_on}
+use Rattle.kb_align.specs.PeriodDays.{max_period_days, period_on}
 use Rattle.kb_timeline.specs.declared.subscription.Subscription.{Subscription}
 use Rattle.kb_due.specs.declared.cell.Cell.{Cell}
 use Rattle.kb_due.specs.Facts.{FactsValue}
@@ -28,7 +28,7 @@ module _ (facts : FactsValue) (subscription : Subscription) (governing : Governi
   pub cell_by-within : (day other : ℕ) (cell : Cell) → cell_by facts subscription day governing ≡ Some cell
       → IsPeriodOf governing.start governing.phase.period (cycle_day facts subscription governing) day
       cell.start cell.end
-      → cell.end ≤ cell.start + 731 → cell.start ≤ other → other < cell.end
+      → cell.end ≤ cell.start + max_period_days → cell.start ≤ other → other < cell.end
       → cell_by facts subscription other governing ≡ Some cell
   cell_by-within day other cell is period short began over =
       let here = period_on-steady governing.start governing.phase.period

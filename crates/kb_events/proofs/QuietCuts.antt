@@ -11,7 +11,7 @@ use Rattle.kb_events.specs.Private.Quiet.{IsQuiet, AreEntriesQuiet, AreStartsQui
 use Rattle.kb_events.specs.Private.Ends.{is_before}
 use Rattle.kb_events.specs.Private.Cuts.{HasDay, HasStarts, HasPhases, HasEntry, HasEntryDays, IsGap}
 
--- no cut lies between the two days; they lie among the days on which cells are told
+-- no cut lies between the two days; they lie among the days that may be charged
 module _ (cuts : List ℕ) (from to : ℕ) (gap : IsGap cuts from to) (low : first_day ≤ from)
     (high : to ≤ end_of_days) where
   -- a day that is among the cuts doesn't lie between

@@ -4,7 +4,7 @@ use Rattle.std.proofs.lemmas.Bool.{cases_lt}
 use Rattle.kb_days.specs.declared.period.Period.{Period}
 use Rattle.kb_align.specs.Between.{IsBetween}
 use Rattle.kb_align.specs.Boundaries.{IsBoundary, IsPeriodOf}
-use Rattle.kb_align.specs.PeriodDays.{is_boundary, period_on}
+use Rattle.kb_align.specs.PeriodDays.{max_period_days, is_boundary, period_on}
 use Rattle.kb_align.proofs.BoundaryDays.{is_boundary-true, period_on-IsPeriodOf}
 use Rattle.kb_events.proofs.SteadyEvents.{last_day_on-begins}
 
@@ -30,7 +30,7 @@ IsBetween-within IsSuch day from to other is begins ends = record {
 
 -- the search finds the same period on all its days
 pub period_on-steady : (start : ℕ) (period : Period) (bcd day from to other : ℕ)
-    → IsPeriodOf start period bcd day from to → to ≤ from + 731
+    → IsPeriodOf start period bcd day from to → to ≤ from + max_period_days
     → from ≤ other → other < to → period_on start period bcd other ≡ (from, to)
 period_on-steady start period bcd day from to other is short begins ends =
     period_on-IsPeriodOf start period bcd other from to

@@ -15,7 +15,7 @@ use kb_timeline::{Entry, Subscription};
 use std::alloc::Global;
 
 /// The days on which something may change that charges a subscription but the boundaries of its periods,
-/// rising, up to the day after the last one on which cells are told: the days of its entries and of the
+/// rising, up to the day after the last one that may be charged: the days of its entries and of the
 /// phases that they count, its cancellation, the entries and the cancellation of its lead if it is an add-on,
 /// and the turns of the billing flag.
 pub(crate) fn cuts(
@@ -188,7 +188,7 @@ fn push_end(days: &mut Vec<u32>, cancel: Option<Day>) -> Result<(), NoMemory>
     }
 }
 
-/// Adds a day, if cells are told on it.
+/// Adds a day, if it may be charged.
 fn push_day(days: &mut Vec<u32>, day: Reach) -> Result<(), NoMemory>
     ensures keeps { OnOk result (KeepsDays days.old.items days.new.items) }
     ensures has { OnOk result (HasDay days.new.items day) }

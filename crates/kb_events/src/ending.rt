@@ -59,7 +59,7 @@ fn kept_until(
     None
 }
 
-/// Whether cells are told on the day of a number, it isn't before an add-on's first day, and the lead doesn't
+/// Whether the day of a number may be charged, it isn't before an add-on's first day, and the lead doesn't
 /// run or offer the add-on on it.
 fn is_failure(
     catalog: &Catalog,

@@ -11,7 +11,7 @@ use kb_blocking::{Blocks, Chain, Flag};
 use kb_days::{Day, FIRST_DAY, Reach};
 
 /// A day, whether billing is blocked on it, and the last day up to it on which that changed, or the first day
-/// on which cells are told where it hasn't changed since.
+/// that may be charged where it hasn't changed since.
 #[derive(Clone, Copy, Debug)]
 pub(crate) struct Standing {
     pub(crate) day: Reach,
@@ -19,7 +19,7 @@ pub(crate) struct Standing {
     pub(crate) turn: Reach,
 }
 
-/// How the billing flag stands on the first day on which cells are told.
+/// How the billing flag stands on the first day that may be charged.
 pub(crate) fn first_standing(blocks: &Blocks, chain: Chain) -> Standing
     ensures day { result.day ≡ first_day }
     ensures stands { IsStanding blocks.now chain first_day result.blocked result.turn }
@@ -32,7 +32,7 @@ pub(crate) fn first_standing(blocks: &Blocks, chain: Chain) -> Standing
     }
 }
 
-/// The first day on which cells are told.
+/// The first day that may be charged.
 pub(crate) fn first_reach() -> Reach
     ensures { result ≡ first_day }
 {
@@ -65,7 +65,7 @@ fn flipped(blocked: bool, turned: bool) -> bool
     if turned { !blocked } else { blocked }
 }
 
-/// The last of these days up to another, or the first day on which cells are told.
+/// The last of these days up to another, or the first day that may be charged.
 fn turn_by(turns: &[Day], day: Reach) -> Reach
     requires named { first_day ≤ day }
     requires rising { AllPairs (λ (earlier later : ℕ). earlier < later) turns.now }

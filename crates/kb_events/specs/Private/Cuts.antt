@@ -10,7 +10,7 @@ use Rattle.kb_days.specs.Calendar.{first_day, last_charged, end_of_days}
 use Rattle.kb_due.specs.Facts.{FactsValue}
 use Rattle.kb_due.specs.Life.{lead_subscription}
 
--- a day is among some, if cells are told on it
+-- a day is among some, if it may be charged
 abbrev pub HasDay : List ℕ → ℕ → Type 0
 HasDay days day = first_day ≤ day → day ≤ last_charged → Contains days day
 

@@ -14,8 +14,8 @@ pub record IsFirstFailure (test : ℕ → Bool) (from end : ℕ) : Type 0 where
   pub passes : (day : ℕ) → from ≤ day → day < end → test day ≡ true
   pub fails : test end ≡ false
 
--- the first day from one on that fails a test, if there is one: where there is none, each of them passes on
--- which cells are told
+-- the first day from one on that fails a test, if there is one: where there is none, each of them passes that
+-- may be charged
 abbrev pub IsFailureFrom : (ℕ → Bool) → ℕ → Option ℕ → Type 0
 IsFailureFrom test from None = (day : ℕ) → from ≤ day → day ≤ last_charged → test day ≡ true
 IsFailureFrom test from (Some end) = IsFirstFailure test from end

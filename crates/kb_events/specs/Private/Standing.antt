@@ -11,7 +11,7 @@ abbrev pub AreTurns : List BlockState → Chain → List ℕ → Type 0
 AreTurns states chain turning = (day : ℕ) → Contains turning day ↔ (turns states chain Billing day ≡ true)
 
 -- on a day the flag is on or not, and no later day than one turned it by then; where none did, that one is
--- the first day on which cells are told
+-- the first day that may be charged
 pub record IsStanding (states : List BlockState) (chain : Chain) (day : ℕ) (blocked : Bool) (turn : ℕ) : Type
     0 where
   pub on : is_on states chain Billing day ≡ blocked
