@@ -68,7 +68,8 @@ module _ (facts : FactsValue) (subscription : Subscription) (governing : Governi
           → cell_by facts subscription day governing ≡ Some cell
           → IsPeriodOf governing.start governing.phase.period (cycle_day facts subscription governing) day
           cell.start cell.end
-          → cell.end ≤ cell.start + max_period_days → cell.start ≤ billed → found ≡ runs same_cell key first (day - first)
+          → cell.end ≤ cell.start + max_period_days → cell.start ≤ billed
+          → found ≡ runs same_cell key first (day - first)
           → push_run same_cell found day end (Some cell) ≡ runs same_cell key first (end - first)
       runs-period day end cell found after some inside within_period is period short begun so_far =
           push_run-runs same_cell same_cell-same key first day end found (Some cell) (omega arith) some
