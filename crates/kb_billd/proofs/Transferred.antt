@@ -104,7 +104,7 @@ under_way-stopped machine first state next left mid right written before after s
         said.0 ++ broke.0,
         Appends-trans written before after said.0 broke.0 said.1 broke.1,
         given_up-cut machine first state next bytes pending said.0 front next_pending broke.0 said.2.1
-        broke.2,
+            broke.2,
       ),
     )
 under_way-stopped machine first state next left mid right written before after seen pending next_pending front
@@ -115,7 +115,7 @@ under_way-stopped machine first state next left mid right written before after s
         said.0 ++ broke.0,
         Appends-trans written before after said.0 broke.0 said.1 broke.1,
         overlong-moved machine first state next bytes pending said.0 front next_pending broke.0 said.2.1
-        broke.2,
+            broke.2,
       ),
     )
 under_way-stopped machine first state next left mid right written before after seen pending next_pending front

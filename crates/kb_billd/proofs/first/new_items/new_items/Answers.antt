@@ -8,5 +8,11 @@ returns c =
     let law = new_items-window c.args.items.now c.args.dates.now c.of-window.result.first
     c.of-window.result.count window.first window.last window.outside c.requires.quiet in
     c.in_ok-bill.ensures
-    ∙ rw (c.in_ok-repair.ensures, c.new-added.ensures.items, c.deref.ensures.value, c.deref-2.ensures.value,
-    c.in_ok-repaired.ensures, c.in_ok-billed.ensures) law
+    ∙ rw (
+      c.in_ok-repair.ensures,
+      c.new-added.ensures.items,
+      c.deref.ensures.value,
+      c.deref-2.ensures.value,
+      c.in_ok-repaired.ensures,
+      c.in_ok-billed.ensures,
+    ) law
