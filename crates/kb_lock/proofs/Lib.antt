@@ -1,0 +1,5 @@
+pub mod Prefixes
+mod Views
+mod Kept
+mod Moves
+mod InTurn
