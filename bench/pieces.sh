@@ -19,7 +19,7 @@ cd "$(dirname "$0")/.."
 . bench/repository.sh
 
 program=pieces_times
-libraries='kb_base kb_days kb_money kb_catalog kb_align kb_timeline kb_blocking kb_samples kb_due kb_events'
+libraries='kb_base kb_days kb_money kb_catalog kb_align kb_timeline kb_blocking kb_due kb_events'
 
 write_program() {
     cat <<'END'
