@@ -1,0 +1,120 @@
+//! Maps that grow and share what stays.
+ghost use Rattle.std.specs.Prelude.{◌≡◌, IfOk, option_copied, option_map, slice_get, map as each};
+ghost use Rattle.std.specs.FinMap as map;
+ghost use Rattle.kb_sharing.specs.Keys.{first_behind};
+
+mod node;
+mod root;
+#[cfg(test)]
+mod tests;
+
+use crate::Key;
+use kb_base::NoMemory;
+use root::{Root, after_in, entries_of, find_in, first_in, len_with, tree_with};
+use std::alloc::Global;
+use std::marker::Model;
+use std::sync::Arc;
+
+/// A map by key that grows and shares what stays.
+///
+/// A look-up and a change take a time that grows with the logarithm of the size. Contracts see a map from the
+/// words of its keys.
+#[derive(Drop)]
+pub struct SharedMap<K: Key, V> {
+    root: Root<K, V>,
+    len: u64,
+}
+
+impl<K: Key, V> Model for SharedMap<K, V> {
+    ghost use Rattle.std.specs.Prelude.{◌≡◌, List, ℕ, length};
+    ghost use Rattle.std.specs.Coded.{coded_list, coded_ℕ};
+    ghost use Rattle.std.specs.FinMap as map;
+    ghost use Rattle.kb_sharing.specs.Keys.{by_words};
+
+    ghost Value = { map.FinMap by_words V };
+
+    ghost coded = { map.code (coded_list coded_ℕ) V.code };
+
+    ghost use Rattle.kb_sharing.specs.Private.Nodes.{root_entries, IsSorted};
+
+    ghost view = { λ kept. map.from_sorted (root_entries K.word kept.root) };
+
+    ghost invariant = { λ kept. IsSorted (root_entries K.word kept.root)
+        × (kept.len ≡ length (root_entries K.word kept.root)) };
+}
+
+impl<K: Key, V> SharedMap<K, V> {
+    /// A map without an entry. It takes no memory.
+    pub fn new() -> SharedMap<K, V>
+        ensures { result ≡ map.empty }
+    {
+        SharedMap { root: None, len: 0 }
+    }
+
+    /// How many entries there are.
+    pub fn len(&self) -> u64
+        ensures { result ≡ map.len self.now }
+    {
+        self.len
+    }
+
+    /// The value at a key.
+    pub fn get(&self, key: &K) -> Option<&V>
+        ensures { option_copied result ≡ map.get self.now (K.word key.now) }
+    {
+        find_in(&self.root, key)
+    }
+
+    /// The first entry.
+    pub fn first(&self) -> Option<(&K, &V)>
+        ensures { option_map (λ p. (K.word p.0.now, p.1.now)) result ≡ slice_get (map.entries self.now) 0 }
+    {
+        first_in(&self.root)
+    }
+
+    /// The first entry behind a key, whether or not the key is there: so one goes through all entries without
+    /// taking memory.
+    pub fn after(&self, key: &K) -> Option<(&K, &V)>
+        ensures { option_map (λ p. (K.word p.0.now, p.1.now)) result
+            ≡ first_behind (K.word key.now) (map.entries self.now) }
+    {
+        after_in(&self.root, key)
+    }
+
+    /// All entries, in the order of their keys.
+    pub fn entries<'a>(&'a self, alloc: Global) -> Result<Vec<(&'a K, &'a V)>, NoMemory>
+        ensures { IfOk result (λ all. each (λ p. (K.word p.0.now, p.1.now)) all.items
+            ≡ map.entries self.now) }
+    {
+        let all = entries_of(&self.root, alloc)?;
+        Ok(all)
+    }
+
+    /// The map with a value at a key, in the place of the one that was there.
+    pub fn with(&self, alloc: Global, key: K, value: V) -> Result<SharedMap<K, V>, NoMemory>
+    where
+        K: Drop,
+        V: Drop,
+        ensures { IfOk result (λ kept. kept ≡ map.insert self.now (K.word key) value) }
+    {
+        let len = len_with(&self.root, self.len, &key)?;
+        let tree = tree_with(&self.root, alloc, key, value)?;
+        let root = Some(tree);
+        Ok(SharedMap { root, len })
+    }
+
+    /// The same map. It shares all entries.
+    pub fn share(&self) -> Result<SharedMap<K, V>, NoMemory>
+    where
+        K: Drop,
+        V: Drop,
+        ensures { IfOk result (λ same. same ≡ self.now) }
+    {
+        let root = match &self.root {
+            None => None,
+            Some(root) => Some(Arc::try_clone(root)?),
+        };
+        let len = self.len;
+        Ok(SharedMap { root, len })
+    }
+}

@@ -1,0 +1,17 @@
+//! Lists and maps among threads: the check proves here that threads may hand them on, and lend them to each
+//! other, where they may do so with what stands in them.
+
+use crate::{Key, SharedList, SharedMap};
+
+/// A list of such members is one of the values that threads may share.
+fn lists_are_shared<T: Send + Sync>(list: &SharedList<T>) {
+    is_shared(list)
+}
+
+/// A map of such keys and values is one of the values that threads may share.
+fn maps_are_shared<K: Key + Send + Sync, V: Send + Sync>(map: &SharedMap<K, V>) {
+    is_shared(map)
+}
+
+/// A value that threads may hand on and lend to each other.
+fn is_shared<T: Send + Sync>(_value: &T) {}
