@@ -1,2 +1,4 @@
 pub mod KeptRules
 pub mod ToldFaults
+pub mod FoundPlaces
+pub mod TakenStates

@@ -13,6 +13,8 @@ mod lookups;
 #[cfg(test)]
 mod messages;
 #[cfg(test)]
+mod overdue_days;
+#[cfg(test)]
 mod overdue_states;
 #[cfg(test)]
 mod overdue_texts;
