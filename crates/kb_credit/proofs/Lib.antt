@@ -1,0 +1,17 @@
+pub mod Integers
+pub mod SizeLaws
+pub mod RowBalances
+pub mod OpenedRows
+pub mod LevelledRows
+pub mod AdjustedInTurn
+pub mod ClosedForm
+pub mod LevelledTwice
+pub mod PaidRows
+pub mod KeptInvoices
+pub mod OpenReads
+pub mod EarliestDays
+pub mod AdjustedPlaces
+pub mod PassSteps
+pub mod KeptBeside
+pub mod SumBounds
+pub mod GrownSizes

@@ -1,0 +1,4 @@
+pub mod OpenInvoices
+pub mod Passes
+pub mod AdjustedRows
+pub mod KeptSums
