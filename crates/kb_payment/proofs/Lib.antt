@@ -1,0 +1,15 @@
+mod MapEntries
+mod PutEntries
+mod PutSums
+mod FoundAttempts
+mod SoundAttempts
+mod TakenSums
+mod KeptPayments
+mod KeptBeside
+mod Purchases
+mod GiveBacks
+mod Settlements
+mod PaidMoves
+mod KeptMaps
+mod EditLaws
+mod OpenKeys

@@ -1,0 +1,3 @@
+pub mod KeptSums
+pub mod GivenBack
+pub mod LentEntries
