@@ -5,17 +5,19 @@ ghost use Rattle.kb_ports.specs.Memory.{fails_next};
 
 use kb_base::{Failed, FaultCount};
 
-/// Counts the calls of an object and its faults. Each count stands still at its last value.
+/// Counts the calls of an object in memory and its faults. Each count stands still at its last value.
 #[derive(Debug, Drop)]
-pub(crate) struct Calls {
-    pub(crate) failing: Vec<u64>,
-    pub(crate) made: u64,
-    pub(crate) faults: FaultCount,
+pub struct Calls {
+    /// The numbers of the calls that are to fail, counted from 1.
+    pub failing: Vec<u64>,
+    /// How many calls were made, failed ones too.
+    pub made: u64,
+    pub faults: FaultCount,
 }
 
 impl Calls {
     /// No call yet, and those of these numbers, counted from 1, are to fail.
-    pub(crate) fn new(failing: Vec<u64>) -> Calls
+    pub fn new(failing: Vec<u64>) -> Calls
         ensures { result ≡ record { failing = failing; made = 0; faults = 0 } }
     {
         Calls {
@@ -26,7 +28,7 @@ impl Calls {
     }
 
     /// Counts one more call, which fails if its number is among the failing ones.
-    pub(crate) fn begin(&mut self) -> Result<(), Failed>
+    pub fn begin(&mut self) -> Result<(), Failed>
         ensures fails { IsErr result ↔ IsTrue (fails_next self.old.failing.items self.old.made) }
         ensures ok { OnOk result (self.new ≡ record self.old {
           made = next_count self.old.made;
@@ -45,7 +47,7 @@ impl Calls {
     }
 
     /// Counts a fault.
-    pub(crate) fn fault(&mut self) -> Failed
+    pub fn fault(&mut self) -> Failed
         ensures counted { self.new ≡ record self.old { faults = next_count self.old.faults } }
         ensures rising { self.old.faults ≤ self.new.faults }
     {

@@ -16,6 +16,7 @@ mod writing;
 
 pub use bytes_sink::BytesSink;
 pub use bytes_source::BytesSource;
+pub use calls::Calls;
 pub use kb_base::{Failed, NoMemory};
 pub use sink::Sink;
 pub use sips::Sips;
