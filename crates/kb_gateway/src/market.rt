@@ -1,0 +1,20 @@
+//! Where gateways come from.
+ghost use Rattle.std.specs.Prelude.{◌≡◌, ◌≤◌, ℕ, OnOk};
+ghost use Rattle.kb_base.specs.Faults.{HasCause};
+
+use crate::Gateway;
+use kb_base::Failed;
+
+/// Makes the gateway of each lane.
+pub trait Market {
+    type Gateway: Gateway + Send + Drop;
+
+    /// How many calls have failed: a u64, which stands still at its last value.
+    ghost faults: { Self → ℕ };
+
+    /// The gateway of this name for a lane, numbered from 0.
+    fn gateway(&mut self, name: &str, lane: u32) -> Result<Self::Gateway, Failed>
+        ensures cause { HasCause (faults self.old) (faults self.new) result }
+        ensures calm { OnOk result (faults self.new ≡ faults self.old) }
+        ensures rising { faults self.old ≤ faults self.new };
+}

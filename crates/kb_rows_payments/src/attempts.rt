@@ -1,0 +1,220 @@
+//! Payments, step by step: what each call answers.
+
+use kb_days::{Day, Name, parse};
+use kb_payment::{PayFault, Payments, Status};
+use std::alloc::Global;
+use std::test::Fail;
+
+type Step = (
+    &'static str,
+    &'static str,
+    u32,
+    &'static str,
+    Option<u64>,
+    &'static str,
+);
+
+/// A call, its payment key, the invoice or the payment that it names, an amount (none asks for all), and what
+/// it answers. Each invoice has a balance of 1000.
+const STEPS: [Step; 26] = [
+    ("purchase", "p1", 1, "", None, "ok"),
+    (
+        "purchase",
+        "p1",
+        2,
+        "",
+        None,
+        "the payment key has an attempt already: choose another key",
+    ),
+    (
+        "purchase",
+        "p2",
+        1,
+        "",
+        Some(5),
+        "a payment on the invoice is under way: wait until it is settled",
+    ),
+    (
+        "refund",
+        "r1",
+        0,
+        "p1",
+        Some(400),
+        "the payment isn't in a state that allows this",
+    ),
+    ("PENDING", "p1", 0, "", None, "ok"),
+    (
+        "purchase",
+        "p2",
+        1,
+        "",
+        Some(5),
+        "a payment on the invoice is under way: wait until it is settled",
+    ),
+    ("SUCCESS", "p1", 0, "", None, "ok"),
+    (
+        "UNKNOWN",
+        "p1",
+        0,
+        "",
+        None,
+        "the payment isn't in a state that allows this",
+    ),
+    (
+        "SUCCESS",
+        "p9",
+        0,
+        "",
+        None,
+        "there is no payment of this key",
+    ),
+    (
+        "refund",
+        "r1",
+        0,
+        "p9",
+        Some(5),
+        "there is no payment of this key",
+    ),
+    ("refund", "r1", 0, "p1", Some(400), "ok"),
+    (
+        "chargeback",
+        "c1",
+        0,
+        "p1",
+        Some(601),
+        "the amount is more than is unpaid, or than is left of the payment",
+    ),
+    ("SUCCESS", "r1", 0, "", None, "ok"),
+    (
+        "refund",
+        "r2",
+        0,
+        "r1",
+        Some(1),
+        "the payment isn't in a state that allows this",
+    ),
+    (
+        "chargeback",
+        "c1",
+        0,
+        "p1",
+        Some(601),
+        "the amount is more than is unpaid, or than is left of the payment",
+    ),
+    ("chargeback", "c1", 0, "p1", Some(600), "ok"),
+    (
+        "PENDING",
+        "c1",
+        0,
+        "",
+        None,
+        "the payment isn't in a state that allows this",
+    ),
+    (
+        "refund",
+        "r2",
+        0,
+        "p1",
+        Some(1),
+        "the amount is more than is unpaid, or than is left of the payment",
+    ),
+    (
+        "purchase",
+        "p2",
+        2,
+        "",
+        Some(1001),
+        "the amount is more than is unpaid, or than is left of the payment",
+    ),
+    ("purchase", "p2", 2, "", Some(1000), "ok"),
+    ("PAYMENT_FAILURE", "p2", 0, "", None, "ok"),
+    ("purchase", "p3", 2, "", Some(700), "ok"),
+    ("SUCCESS", "p3", 0, "", None, "ok"),
+    ("refund", "r3", 0, "p3", Some(700), "ok"),
+    ("PLUGIN_FAILURE", "r3", 0, "", None, "ok"),
+    ("refund", "r4", 0, "p3", Some(700), "ok"),
+];
+
+#[test]
+fn payments_step_by_step(rt: HostRuntime) -> Result<(), Fail> {
+    let alloc = rt.alloc();
+    let day = parse(b"2024-03-01")?;
+    let mut payments = Payments::new(alloc);
+    for step in &STEPS {
+        match called(alloc, &payments, step, day)? {
+            Ok(next) => {
+                assert_eq!(rt; step.5, "ok", "{}", step.1);
+                payments = next;
+            }
+            Err(fault) => {
+                let told = fault.to_string(alloc)?;
+                assert_eq!(rt; told.as_str(), step.5, "{}", step.1);
+            }
+        }
+    }
+    Ok(())
+}
+
+/// What a step makes of the payments, or its refusal.
+fn called(
+    alloc: Global,
+    payments: &Payments,
+    step: &Step,
+    day: Day,
+) -> Result<Result<Payments, PayFault>, Fail> {
+    let key = named(step.1)?;
+    Ok(match step.0 {
+        "purchase" => payments.purchase(alloc, key, step.2, 1000, step.4, day, false),
+        "refund" => payments.refund(alloc, key, named(step.3)?, step.4.unwrap_or(0), day),
+        "chargeback" => payments.chargeback(alloc, key, named(step.3)?, step.4.unwrap_or(0), day),
+        word => settled(alloc, payments, key, word),
+    })
+}
+
+/// The payments with a status, or the refusal.
+fn settled(
+    alloc: Global,
+    payments: &Payments,
+    key: Name,
+    word: &str,
+) -> Result<Payments, PayFault> {
+    let (next, _) = payments.settle(alloc, key, status_named(word))?;
+    Ok(next)
+}
+
+#[test]
+fn what_is_asked_of_payments(rt: HostRuntime) -> Result<(), Fail> {
+    let alloc = rt.alloc();
+    let day = parse(b"2024-03-01")?;
+    let key = named("auto-3")?;
+    let begun = Payments::new(alloc).purchase(alloc, key, 3, 5, None, day, true)?;
+    let open = begun.open_attempts(alloc)?;
+    assert_eq!(rt; open.as_slice(), [key].as_slice());
+    assert_eq!(rt;
+        (
+            begun.has_open_purchase(2),
+            begun.has_open_purchase(3),
+            begun.has_automatic_since(2, day),
+            begun.has_automatic_since(3, day),
+        ),
+        (false, true, false, true)
+    );
+    let (paid, moved) = begun.settle(alloc, key, Status::Success)?;
+    assert_eq!(rt; (moved, paid.has_open_purchase(3)), (5, false));
+    Ok(())
+}
+
+fn named(text: &str) -> Result<Name, Fail> {
+    Ok(Name::new(text.as_bytes()).ok_or("a name")?)
+}
+
+fn status_named(word: &str) -> Status {
+    match word {
+        "PENDING" => Status::Pending,
+        "SUCCESS" => Status::Success,
+        "PAYMENT_FAILURE" => Status::PaymentFailure,
+        "PLUGIN_FAILURE" => Status::PluginFailure,
+        _ => Status::Unknown,
+    }
+}

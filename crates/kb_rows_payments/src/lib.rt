@@ -1,0 +1,9 @@
+//! Worked rows of payments and of the gateway.
+#![tactic(auto)]
+
+#[cfg(test)]
+mod attempts;
+#[cfg(test)]
+mod gateways;
+#[cfg(test)]
+mod ids;
