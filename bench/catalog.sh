@@ -290,13 +290,13 @@ fn change_policy(alloc: Global) -> Option<Seq<ChangePolicyCase>> {
         from: anything(),
         phase: None,
         to: of_sale()?,
-        policy: Policy::Illegal,
+        answer: Policy::Illegal,
     };
     let last = ChangePolicyCase {
         from: anything(),
         phase: None,
         to: anything(),
-        policy: Policy::EndOfTerm,
+        answer: Policy::EndOfTerm,
     };
     let cases = vec![in alloc; case, case, case, case, case, case, case, case, case, last];
     Some(Seq::from_vec(cases.ok()?))
@@ -307,13 +307,13 @@ fn change_alignment(alloc: Global) -> Option<Seq<ChangeAlignmentCase>> {
         from: anything(),
         phase: None,
         to: of_sale()?,
-        alignment: Align::StartOfBundle,
+        answer: Align::StartOfBundle,
     };
     let last = ChangeAlignmentCase {
         from: anything(),
         phase: None,
         to: anything(),
-        alignment: Align::ChangeOfPlan,
+        answer: Align::ChangeOfPlan,
     };
     let cases = vec![in alloc; case, case, case, case, case, case, case, case, case, last];
     Some(Seq::from_vec(cases.ok()?))
@@ -323,12 +323,12 @@ fn cancel_policy(alloc: Global) -> Option<Seq<CancelCase>> {
     let case = CancelCase {
         plan: of_sale()?,
         phase: None,
-        policy: Policy::Illegal,
+        answer: Policy::Illegal,
     };
     let last = CancelCase {
         plan: anything(),
         phase: None,
-        policy: Policy::EndOfTerm,
+        answer: Policy::EndOfTerm,
     };
     let cases = vec![in alloc; case, case, case, case, case, case, case, case, case, last];
     Some(Seq::from_vec(cases.ok()?))
@@ -351,12 +351,12 @@ fn billing_alignment(alloc: Global) -> Option<Seq<BillingCase>> {
     let case = BillingCase {
         plan: of_sale()?,
         phase: None,
-        alignment: BillingAlign::Account,
+        answer: BillingAlign::Account,
     };
     let last = BillingCase {
         plan: anything(),
         phase: None,
-        alignment: BillingAlign::Subscription,
+        answer: BillingAlign::Subscription,
     };
     let cases = vec![in alloc; case, case, case, case, case, case, case, case, case, last];
     Some(Seq::from_vec(cases.ok()?))

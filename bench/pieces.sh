@@ -336,7 +336,7 @@ fn change_policy(alloc: Global) -> Option<Seq<ChangePolicyCase>> {
         from: anything(),
         phase: None,
         to: anything(),
-        policy: Policy::Immediate,
+        answer: Policy::Immediate,
     };
     Some(Seq::from_vec(vec![in alloc; case].ok()?))
 }
@@ -346,7 +346,7 @@ fn change_alignment(alloc: Global) -> Option<Seq<ChangeAlignmentCase>> {
         from: anything(),
         phase: None,
         to: anything(),
-        alignment: Align::ChangeOfPlan,
+        answer: Align::ChangeOfPlan,
     };
     Some(Seq::from_vec(vec![in alloc; case].ok()?))
 }
@@ -355,7 +355,7 @@ fn cancel_policy(alloc: Global) -> Option<Seq<CancelCase>> {
     let case = CancelCase {
         plan: anything(),
         phase: None,
-        policy: Policy::Immediate,
+        answer: Policy::Immediate,
     };
     Some(Seq::from_vec(vec![in alloc; case].ok()?))
 }
@@ -372,7 +372,7 @@ fn billing_alignment(alloc: Global) -> Option<Seq<BillingCase>> {
     let case = BillingCase {
         plan: anything(),
         phase: None,
-        alignment: BillingAlign::Account,
+        answer: BillingAlign::Account,
     };
     Some(Seq::from_vec(vec![in alloc; case].ok()?))
 }

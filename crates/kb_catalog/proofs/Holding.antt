@@ -4,8 +4,8 @@ use Rattle.std.proofs.lemmas.Bool.{or_parts, not-false}
 use Rattle.kb_catalog.specs.declared.version.Version.{Version}
 use Rattle.kb_catalog.specs.declared.rule.Rule.TheVariants.{Cases}
 use Rattle.kb_catalog.specs.VersionRules.{rule_list_wrong, IsValid}
-use Rattle.kb_catalog.specs.Cases.{Asks, ends_open, decides_wrongly, EndOpen, asks_of_change_policy}
-use Rattle.kb_catalog.specs.Cases.{asks_of_change_alignment, asks_of_cancel, asks_of_create, asks_of_billing}
+use Rattle.kb_catalog.specs.Cases.{Asks, ends_open, decides_wrongly, EndOpen, asks_of_change, asks_of_plan}
+use Rattle.kb_catalog.specs.Cases.{asks_of_create}
 use Rattle.kb_catalog.proofs.RulesHold.{valid-nowhere_broken}
 
 -- a rule list that doesn't decide wrongly ends with a case without condition
@@ -23,13 +23,13 @@ EndOpen-valid version valid =
     let at_3 : rule_list_wrong version 3 ≡ false = valid-nowhere_broken version valid Cases 3 (omega arith) in
     let at_4 : rule_list_wrong version 4 ≡ false =
     valid-nowhere_broken version valid Cases 4 (omega arith) in (
-      decides-open version asks_of_change_policy version.rules.change_policy
+      decides-open version asks_of_change version.rules.change_policy
           (or_parts _ _ (or_parts _ _ (or_parts _ _ (or_parts _ _ at_0).0).0).0).0,
-      decides-open version asks_of_change_alignment version.rules.change_alignment
+      decides-open version asks_of_change version.rules.change_alignment
           (or_parts _ _ (or_parts _ _ (or_parts _ _ at_1).0).0).0,
-      decides-open version asks_of_cancel version.rules.cancel_policy (or_parts _ _ (or_parts _ _ at_2).0).0,
+      decides-open version asks_of_plan version.rules.cancel_policy (or_parts _ _ (or_parts _ _ at_2).0).0,
       decides-open version asks_of_create version.rules.create_alignment (or_parts _ _ at_3).0,
-      decides-open version asks_of_billing version.rules.billing_alignment at_4,
+      decides-open version asks_of_plan version.rules.billing_alignment at_4,
     )
 
 pub ruleset endings = EndOpen-valid

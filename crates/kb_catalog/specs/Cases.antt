@@ -5,11 +5,9 @@ use Rattle.std.specs.List.{list_any}
 use Rattle.kb_catalog.specs.declared.version.Version.{Version}
 use Rattle.kb_catalog.specs.declared.version.Rules.{Rules}
 use Rattle.kb_catalog.specs.declared.version.PlanCondition.{PlanCondition}
-use Rattle.kb_catalog.specs.declared.version.ChangePolicyCase.{ChangePolicyCase}
-use Rattle.kb_catalog.specs.declared.version.ChangeAlignmentCase.{ChangeAlignmentCase}
-use Rattle.kb_catalog.specs.declared.version.CancelCase.{CancelCase}
+use Rattle.kb_catalog.specs.declared.version.ChangeCase.{ChangeCase}
+use Rattle.kb_catalog.specs.declared.version.PlanCase.{PlanCase}
 use Rattle.kb_catalog.specs.declared.version.CreateCase.{CreateCase}
-use Rattle.kb_catalog.specs.declared.version.BillingCase.{BillingCase}
 use Rattle.kb_catalog.specs.declared.words.PhaseType.{PhaseType}
 use Rattle.kb_catalog.specs.Products.{has_product}
 use Rattle.kb_catalog.specs.Lists.{has_list}
@@ -22,20 +20,14 @@ pub record Asks : Type 0 where
   pub to : Option PlanCondition
 
 -- what each kind of case asks
-abbrev pub asks_of_change_policy : ChangePolicyCase → Asks
-asks_of_change_policy case = record { from = case.from; phase = case.phase; to = Some case.to }
+abbrev pub asks_of_change : {T : Type 0} → ChangeCase T → Asks
+asks_of_change case = record { from = case.from; phase = case.phase; to = Some case.to }
 
-abbrev pub asks_of_change_alignment : ChangeAlignmentCase → Asks
-asks_of_change_alignment case = record { from = case.from; phase = case.phase; to = Some case.to }
-
-abbrev pub asks_of_cancel : CancelCase → Asks
-asks_of_cancel case = record { from = case.plan; phase = case.phase; to = None }
+abbrev pub asks_of_plan : {T : Type 0} → PlanCase T → Asks
+asks_of_plan case = record { from = case.plan; phase = case.phase; to = None }
 
 abbrev pub asks_of_create : CreateCase → Asks
 asks_of_create case = record { from = case.plan; phase = None; to = None }
-
-abbrev pub asks_of_billing : BillingCase → Asks
-asks_of_billing case = record { from = case.plan; phase = case.phase; to = None }
 
 -- a plan condition asks nothing
 abbrev pub asks_nothing : PlanCondition → Bool
@@ -84,8 +76,8 @@ decides_wrongly version asks cases = not (ends_open asks cases)
 -- each rule list has a case, and its last one has no condition
 abbrev pub EndOpen : Rules → Type 0
 EndOpen rules =
-    (ends_open asks_of_change_policy rules.change_policy ≡ true)
-    × (ends_open asks_of_change_alignment rules.change_alignment ≡ true)
-    × (ends_open asks_of_cancel rules.cancel_policy ≡ true)
+    (ends_open asks_of_change rules.change_policy ≡ true)
+    × (ends_open asks_of_change rules.change_alignment ≡ true)
+    × (ends_open asks_of_plan rules.cancel_policy ≡ true)
     × (ends_open asks_of_create rules.create_alignment ≡ true)
-    × (ends_open asks_of_billing rules.billing_alignment ≡ true)
+    × (ends_open asks_of_plan rules.billing_alignment ≡ true)

@@ -7,18 +7,15 @@ use Rattle.kb_catalog.specs.declared.version.Version.{Version}
 use Rattle.kb_catalog.specs.declared.version.Plan.{Plan}
 use Rattle.kb_catalog.specs.declared.version.PriceList.{PriceList}
 use Rattle.kb_catalog.specs.declared.version.PlanCondition.{PlanCondition}
-use Rattle.kb_catalog.specs.declared.version.ChangePolicyCase.{ChangePolicyCase}
-use Rattle.kb_catalog.specs.declared.version.ChangeAlignmentCase.{ChangeAlignmentCase}
-use Rattle.kb_catalog.specs.declared.version.CancelCase.{CancelCase}
+use Rattle.kb_catalog.specs.declared.version.ChangeCase.{ChangeCase}
+use Rattle.kb_catalog.specs.declared.version.PlanCase.{PlanCase}
 use Rattle.kb_catalog.specs.declared.version.CreateCase.{CreateCase}
-use Rattle.kb_catalog.specs.declared.version.BillingCase.{BillingCase}
 use Rattle.kb_catalog.specs.declared.ask.PlanAsk.{PlanAsk}
 use Rattle.kb_catalog.specs.declared.ask.ChangeAsk.{ChangeAsk}
 use Rattle.kb_catalog.specs.Words.{same_category, same_phase, same_period}
 use Rattle.kb_catalog.specs.Products.{has_name}
 use Rattle.kb_catalog.specs.Plans.{plan_period}
-use Rattle.kb_catalog.specs.Cases.{Asks, asks_of_change_policy, asks_of_change_alignment, asks_of_cancel}
-use Rattle.kb_catalog.specs.Cases.{asks_of_create, asks_of_billing}
+use Rattle.kb_catalog.specs.Cases.{Asks, asks_of_change, asks_of_plan, asks_of_create}
 
 -- the place of the last version that is effective on or before a day
 abbrev pub version_at_from : ℕ → List Version → ℕ → Option ℕ
@@ -84,20 +81,14 @@ fits from to asks = holds_of asks.from from && holds same_phase asks.phase from.
 
 -- a case of each kind fits what it is asked about; where no change is decided, no condition looks at a plan
 -- asked for
-abbrev pub fits_change_policy : ChangeAsk → ChangePolicyCase → Bool
-fits_change_policy change = λ case. fits change.from change.to (asks_of_change_policy case)
+abbrev pub fits_change : {T : Type 0} → ChangeAsk → ChangeCase T → Bool
+fits_change change = λ case. fits change.from change.to (asks_of_change case)
 
-abbrev pub fits_change_alignment : ChangeAsk → ChangeAlignmentCase → Bool
-fits_change_alignment change = λ case. fits change.from change.to (asks_of_change_alignment case)
-
-abbrev pub fits_cancel : PlanAsk → CancelCase → Bool
-fits_cancel now = λ case. fits now now (asks_of_cancel case)
+abbrev pub fits_plan : {T : Type 0} → PlanAsk → PlanCase T → Bool
+fits_plan now = λ case. fits now now (asks_of_plan case)
 
 abbrev pub fits_create : PlanAsk → CreateCase → Bool
 fits_create now = λ case. fits now now (asks_of_create case)
-
-abbrev pub fits_billing : PlanAsk → BillingCase → Bool
-fits_billing now = λ case. fits now now (asks_of_billing case)
 
 -- what the first case gives whose conditions all hold
 abbrev pub first_match : {A B : Type 0} → (A → Bool) → (A → B) → List A → Option B

@@ -49,16 +49,16 @@ no_condition = record { product = None; category = None; period = None; list = N
 -- one case without a condition in each rule list
 abbrev open_rules : Rules
 open_rules = record {
-  change_policy = record { from = no_condition; phase = None; to = no_condition; policy = Immediate } ∷ [];
+  change_policy = record { from = no_condition; phase = None; to = no_condition; answer = Immediate } ∷ [];
   change_alignment = record {
     from = no_condition;
     phase = None;
     to = no_condition;
-    alignment = StartOfSubscription;
+    answer = StartOfSubscription;
   } ∷ [];
-  cancel_policy = record { plan = no_condition; phase = None; policy = Immediate } ∷ [];
+  cancel_policy = record { plan = no_condition; phase = None; answer = Immediate } ∷ [];
   create_alignment = record { plan = no_condition; alignment = FromSubscription } ∷ [];
-  billing_alignment = record { plan = no_condition; phase = None; alignment = Account } ∷ [];
+  billing_alignment = record { plan = no_condition; phase = None; answer = Account } ∷ [];
 }
 
 -- a version in which all rules hold

@@ -15,18 +15,17 @@ use Rattle.kb_base.specs.Offenders.{first_place, passes_at, repeats_at}
 use Rattle.kb_catalog.specs.Products.{is_empty, has_product, lists_wrongly, lists_twice}
 use Rattle.kb_catalog.specs.Plans.{ends_unlimited, kinds_fit, bills_wrongly, phase_prices_wrongly}
 use Rattle.kb_catalog.specs.Lists.{sells_wrongly, has_list, default_list}
-use Rattle.kb_catalog.specs.Cases.{decides_wrongly, asks_of_change_policy, asks_of_change_alignment}
-use Rattle.kb_catalog.specs.Cases.{asks_of_cancel, asks_of_create, asks_of_billing}
+use Rattle.kb_catalog.specs.Cases.{decides_wrongly, asks_of_change, asks_of_plan, asks_of_create}
 
 -- whether the rule list at a place is wrong: change policy, change alignment, cancel policy, create
 -- alignment, billing alignment
 abbrev pub rule_list_wrong : Version → ℕ → Bool
 rule_list_wrong version place =
-    (place == 0 && decides_wrongly version asks_of_change_policy version.rules.change_policy)
-    || (place == 1 && decides_wrongly version asks_of_change_alignment version.rules.change_alignment)
-    || (place == 2 && decides_wrongly version asks_of_cancel version.rules.cancel_policy)
+    (place == 0 && decides_wrongly version asks_of_change version.rules.change_policy)
+    || (place == 1 && decides_wrongly version asks_of_change version.rules.change_alignment)
+    || (place == 2 && decides_wrongly version asks_of_plan version.rules.cancel_policy)
     || (place == 3 && decides_wrongly version asks_of_create version.rules.create_alignment)
-    || (place == 4 && decides_wrongly version asks_of_billing version.rules.billing_alignment)
+    || (place == 4 && decides_wrongly version asks_of_plan version.rules.billing_alignment)
 
 -- where a rule is broken
 abbrev pub is_broken_at : Version → Rule → ℕ → Bool

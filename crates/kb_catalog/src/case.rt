@@ -2,14 +2,10 @@
 ghost use Rattle.std.specs.Prelude.{◌≡◌, ◌&&◌, Bool, true, Some, bytes_eq, find};
 ghost use Rattle.std.specs.Option.{option_copied};
 ghost use Rattle.kb_catalog.specs.Words.{same_category, same_phase, same_period};
-ghost use Rattle.kb_catalog.specs.Cases.{Asks, ends_open, asks_of_change_policy, asks_of_change_alignment};
-ghost use Rattle.kb_catalog.specs.Cases.{asks_of_cancel, asks_of_create, asks_of_billing};
+ghost use Rattle.kb_catalog.specs.Cases.{Asks, ends_open, asks_of_change, asks_of_plan, asks_of_create};
 ghost use Rattle.kb_catalog.specs.LookUp.{holds, holds_of, holds_to, fits};
 
-use crate::{
-    BillingCase, CancelCase, Category, ChangeAlignmentCase, ChangePolicyCase, CreateCase,
-    PhaseType, PlanAsk, PlanCondition,
-};
+use crate::{Category, ChangeCase, CreateCase, PhaseType, PlanAsk, PlanCase, PlanCondition};
 use kb_days::{Name, Period};
 
 /// A case of a rule list, which decides where all its conditions hold.
@@ -29,8 +25,8 @@ pub(crate) trait Case {
         ensures { option_copied result ≡ (asks self.now).to };
 }
 
-impl Case for ChangePolicyCase {
-    ghost asks = { asks_of_change_policy };
+impl<T> Case for ChangeCase<T> {
+    ghost asks = { asks_of_change };
 
     fn from(&self) -> &PlanCondition {
         &self.from
@@ -45,24 +41,8 @@ impl Case for ChangePolicyCase {
     }
 }
 
-impl Case for ChangeAlignmentCase {
-    ghost asks = { asks_of_change_alignment };
-
-    fn from(&self) -> &PlanCondition {
-        &self.from
-    }
-
-    fn phase(&self) -> Option<PhaseType> {
-        self.phase
-    }
-
-    fn to(&self) -> Option<&PlanCondition> {
-        Some(&self.to)
-    }
-}
-
-impl Case for CancelCase {
-    ghost asks = { asks_of_cancel };
+impl<T> Case for PlanCase<T> {
+    ghost asks = { asks_of_plan };
 
     fn from(&self) -> &PlanCondition {
         &self.plan
@@ -86,22 +66,6 @@ impl Case for CreateCase {
 
     fn phase(&self) -> Option<PhaseType> {
         None
-    }
-
-    fn to(&self) -> Option<&PlanCondition> {
-        None
-    }
-}
-
-impl Case for BillingCase {
-    ghost asks = { asks_of_billing };
-
-    fn from(&self) -> &PlanCondition {
-        &self.plan
-    }
-
-    fn phase(&self) -> Option<PhaseType> {
-        self.phase
     }
 
     fn to(&self) -> Option<&PlanCondition> {

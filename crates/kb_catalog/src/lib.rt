@@ -22,7 +22,7 @@ pub use catalog::{AddFault, Catalog, MAX_VERSIONS};
 pub use rule::{CatalogFault, Rule};
 pub use valid::Valid;
 pub use version::{
-    BillingCase, CancelCase, ChangeAlignmentCase, ChangePolicyCase, CreateCase, Phase, Plan,
-    PlanCondition, Price, PriceList, Product, Rules, Version,
+    BillingCase, CancelCase, ChangeAlignmentCase, ChangeCase, ChangePolicyCase, CreateCase, Phase,
+    Plan, PlanCase, PlanCondition, Price, PriceList, Product, Rules, Version,
 };
 pub use words::{Align, BillingAlign, Category, CreateAlign, PhaseType, Policy};

@@ -3,8 +3,8 @@ ghost use Rattle.std.specs.Prelude.{◌≡◌, ◌<◌, ◌^◌, bytes_eq, lengt
 ghost use Rattle.kb_catalog.specs.declared.version.PriceList.{PriceList};
 ghost use Rattle.kb_catalog.specs.Plans.{plan_period};
 ghost use Rattle.std.specs.List.{position_from};
-ghost use Rattle.kb_catalog.specs.LookUp.{plan_at, names_sold, is_asked, first_match, fits_change_policy};
-ghost use Rattle.kb_catalog.specs.LookUp.{fits_change_alignment, fits_cancel, fits_create, fits_billing};
+ghost use Rattle.kb_catalog.specs.LookUp.{plan_at, names_sold, is_asked, first_match, fits_change, fits_plan};
+ghost use Rattle.kb_catalog.specs.LookUp.{fits_create};
 ghost use Rattle.kb_catalog.specs.Cases.{EndOpen};
 ghost use Rattle.kb_catalog.specs.ValidVersions.{IsOnlyPlan};
 
@@ -30,7 +30,7 @@ impl Valid {
 
     /// When a change takes effect: by the first case whose conditions all hold.
     pub fn change_policy(&self, change: &ChangeAsk) -> Policy
-        ensures { first_match (fits_change_policy change.now) (λ case. case.policy)
+        ensures { first_match (fits_change change.now) (λ case. case.answer)
             self.now.rules.change_policy ≡ Some result }
     {
         decide(
@@ -38,12 +38,12 @@ impl Valid {
             &change.from,
             &change.to,
         )
-        .policy
+        .answer
     }
 
     /// From which day the phases are counted after a change: by the first case whose conditions all hold.
     pub fn change_alignment(&self, change: &ChangeAsk) -> Align
-        ensures { first_match (fits_change_alignment change.now) (λ case. case.alignment)
+        ensures { first_match (fits_change change.now) (λ case. case.answer)
             self.now.rules.change_alignment ≡ Some result }
     {
         decide(
@@ -51,15 +51,15 @@ impl Valid {
             &change.from,
             &change.to,
         )
-        .alignment
+        .answer
     }
 
     /// When a cancellation takes effect: by the first case whose conditions all hold.
     pub fn cancel_policy(&self, now: &PlanAsk) -> Policy
-        ensures { first_match (fits_cancel now.now) (λ case. case.policy) self.now.rules.cancel_policy
+        ensures { first_match (fits_plan now.now) (λ case. case.answer) self.now.rules.cancel_policy
             ≡ Some result }
     {
-        decide(self.rules().cancel_policy.as_slice(), now, now).policy
+        decide(self.rules().cancel_policy.as_slice(), now, now).answer
     }
 
     /// From which day the phases are counted after a start: by the first case whose conditions all hold.
@@ -72,10 +72,10 @@ impl Valid {
 
     /// Whose cycle day a plan is billed by: by the first case whose conditions all hold.
     pub fn billing_alignment(&self, now: &PlanAsk) -> BillingAlign
-        ensures { first_match (fits_billing now.now) (λ case. case.alignment) self.now.rules.billing_alignment
+        ensures { first_match (fits_plan now.now) (λ case. case.answer) self.now.rules.billing_alignment
             ≡ Some result }
     {
-        decide(self.rules().billing_alignment.as_slice(), now, now).alignment
+        decide(self.rules().billing_alignment.as_slice(), now, now).answer
     }
 
     /// The rule lists, each of which ends with a case without condition.

@@ -76,43 +76,38 @@ pub struct PlanCondition {
     pub list: Option<Name>,
 }
 
-/// When a change from one plan to another takes effect.
+/// A case about a change from one plan to another: what it asks, and what it gives.
 #[derive(Clone, Copy, Debug)]
-pub struct ChangePolicyCase {
+pub struct ChangeCase<T> {
     pub from: PlanCondition,
     pub phase: Option<PhaseType>,
     pub to: PlanCondition,
-    pub policy: Policy,
+    pub answer: T,
 }
 
-/// From which day the phases are counted after a change from one plan to another.
+/// A case about a plan and its phase: what it asks, and what it gives.
 #[derive(Clone, Copy, Debug)]
-pub struct ChangeAlignmentCase {
-    pub from: PlanCondition,
-    pub phase: Option<PhaseType>,
-    pub to: PlanCondition,
-    pub alignment: Align,
-}
-
-/// When the cancellation of a plan takes effect.
-#[derive(Clone, Copy, Debug)]
-pub struct CancelCase {
+pub struct PlanCase<T> {
     pub plan: PlanCondition,
     pub phase: Option<PhaseType>,
-    pub policy: Policy,
+    pub answer: T,
 }
+
+/// When a change from one plan to another takes effect.
+pub type ChangePolicyCase = ChangeCase<Policy>;
+
+/// From which day the phases are counted after a change from one plan to another.
+pub type ChangeAlignmentCase = ChangeCase<Align>;
+
+/// When the cancellation of a plan takes effect.
+pub type CancelCase = PlanCase<Policy>;
+
+/// Whose cycle day a plan is billed by.
+pub type BillingCase = PlanCase<BillingAlign>;
 
 /// From which day the phases of a plan are counted.
 #[derive(Clone, Copy, Debug)]
 pub struct CreateCase {
     pub plan: PlanCondition,
     pub alignment: CreateAlign,
-}
-
-/// Whose cycle day a plan is billed by.
-#[derive(Clone, Copy, Debug)]
-pub struct BillingCase {
-    pub plan: PlanCondition,
-    pub phase: Option<PhaseType>,
-    pub alignment: BillingAlign,
 }

@@ -14,11 +14,12 @@ use Rattle.kb_catalog.specs.declared.version.Price.{Price}
 use Rattle.kb_catalog.specs.declared.version.PriceList.{PriceList}
 use Rattle.kb_catalog.specs.declared.version.Rules.{Rules}
 use Rattle.kb_catalog.specs.declared.version.PlanCondition.{PlanCondition}
-use Rattle.kb_catalog.specs.declared.version.ChangePolicyCase.{ChangePolicyCase}
-use Rattle.kb_catalog.specs.declared.version.ChangeAlignmentCase.{ChangeAlignmentCase}
-use Rattle.kb_catalog.specs.declared.version.CancelCase.{CancelCase}
+use Rattle.kb_catalog.specs.declared.version.ChangeCase.{ChangeCase}
+use Rattle.kb_catalog.specs.declared.version.PlanCase.{PlanCase}
 use Rattle.kb_catalog.specs.declared.version.CreateCase.{CreateCase}
-use Rattle.kb_catalog.specs.declared.version.BillingCase.{BillingCase}
+use Rattle.kb_catalog.specs.declared.words.Policy.{Policy}
+use Rattle.kb_catalog.specs.declared.words.Align.{Align}
+use Rattle.kb_catalog.specs.declared.words.BillingAlign.{BillingAlign}
 use Rattle.kb_catalog_text.specs.declared.span_unit.SpanUnit.{SpanUnit}
 use Rattle.kb_catalog_text.specs.declared.span_unit.SpanUnit.TheVariants as unit
 use Rattle.kb_catalog_text.specs.Reads.{Read, and_then, keys_read, is_among, read_as, required, optional}
@@ -165,31 +166,35 @@ change_keys =
 abbrev pub plan_keys_of_case : List (List ℕ)
 plan_keys_of_case = codes "product" ∷ codes "category" ∷ codes "period" ∷ codes "list" ∷ []
 
-unfoldable pub change_policy_in : Members → Read ChangePolicyCase
-change_policy_in members =
-    and_then (keys_read (is_among (change_keys ++ codes "policy" ∷ [])) members) (λ _.
+unfoldable pub change_case_in : {T : Type 0} → (List ℕ → Data → Read T) → List ℕ → Members
+    → Read (ChangeCase T)
+change_case_in answer_in key members =
+    and_then (keys_read (is_among (change_keys ++ key ∷ [])) members) (λ _.
     and_then (from_conditions_in members) (λ from.
     and_then (optional (read_as (word_in phase_words)) (codes "phase") members) (λ phase.
     and_then (to_conditions_in members) (λ to.
-    and_then (required (read_as (word_in policy_words)) (codes "policy") members) (λ policy.
-    Ok (record { from = from; phase = phase; to = to; policy = policy }))))))
+    and_then (required answer_in key members) (λ answer.
+    Ok (record { from = from; phase = phase; to = to; answer = answer }))))))
 
-unfoldable pub change_alignment_in : Members → Read ChangeAlignmentCase
-change_alignment_in members =
-    and_then (keys_read (is_among (change_keys ++ codes "alignment" ∷ [])) members) (λ _.
-    and_then (from_conditions_in members) (λ from.
-    and_then (optional (read_as (word_in phase_words)) (codes "phase") members) (λ phase.
-    and_then (to_conditions_in members) (λ to.
-    and_then (required (read_as (word_in align_words)) (codes "alignment") members) (λ alignment.
-    Ok (record { from = from; phase = phase; to = to; alignment = alignment }))))))
+abbrev pub change_policy_in : Members → Read (ChangeCase Policy)
+change_policy_in = change_case_in (read_as (word_in policy_words)) (codes "policy")
 
-unfoldable pub cancel_in : Members → Read CancelCase
-cancel_in members =
-    and_then (keys_read (is_among (plan_keys_of_case ++ codes "phase" ∷ codes "policy" ∷ [])) members) (λ _.
+abbrev pub change_alignment_in : Members → Read (ChangeCase Align)
+change_alignment_in = change_case_in (read_as (word_in align_words)) (codes "alignment")
+
+unfoldable pub plan_case_in : {T : Type 0} → (List ℕ → Data → Read T) → List ℕ → Members → Read (PlanCase T)
+plan_case_in answer_in key members =
+    and_then (keys_read (is_among (plan_keys_of_case ++ codes "phase" ∷ key ∷ [])) members) (λ _.
     and_then (plan_conditions_in members) (λ plan.
     and_then (optional (read_as (word_in phase_words)) (codes "phase") members) (λ phase.
-    and_then (required (read_as (word_in policy_words)) (codes "policy") members) (λ policy.
-    Ok (record { plan = plan; phase = phase; policy = policy })))))
+    and_then (required answer_in key members) (λ answer.
+    Ok (record { plan = plan; phase = phase; answer = answer })))))
+
+abbrev pub cancel_in : Members → Read (PlanCase Policy)
+cancel_in = plan_case_in (read_as (word_in policy_words)) (codes "policy")
+
+abbrev pub billing_in : Members → Read (PlanCase BillingAlign)
+billing_in = plan_case_in (read_as (word_in billing_align_words)) (codes "alignment")
 
 unfoldable pub create_in : Members → Read CreateCase
 create_in members =
@@ -197,15 +202,6 @@ create_in members =
     and_then (plan_conditions_in members) (λ plan.
     and_then (required (read_as (word_in create_align_words)) (codes "alignment") members) (λ alignment.
     Ok (record { plan = plan; alignment = alignment }))))
-
-unfoldable pub billing_in : Members → Read BillingCase
-billing_in members =
-    and_then (keys_read (is_among (plan_keys_of_case ++ codes "phase" ∷ codes "alignment" ∷ [])) members)
-    (λ _.
-    and_then (plan_conditions_in members) (λ plan.
-    and_then (optional (read_as (word_in phase_words)) (codes "phase") members) (λ phase.
-    and_then (required (read_as (word_in billing_align_words)) (codes "alignment") members) (λ alignment.
-    Ok (record { plan = plan; phase = phase; alignment = alignment })))))
 
 -- the rules
 abbrev pub rules_keys : List (List ℕ)

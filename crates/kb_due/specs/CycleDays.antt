@@ -6,11 +6,11 @@ use Rattle.kb_days.specs.Calendar.{day_of_month}
 use Rattle.kb_catalog.specs.declared.version.Plan.{Plan}
 use Rattle.kb_catalog.specs.declared.version.Phase.{Phase}
 use Rattle.kb_catalog.specs.declared.version.Product.{Product}
-use Rattle.kb_catalog.specs.declared.version.BillingCase.{BillingCase}
+use Rattle.kb_catalog.specs.declared.version.PlanCase.{PlanCase}
 use Rattle.kb_catalog.specs.declared.words.BillingAlign.{BillingAlign}
 use Rattle.kb_catalog.specs.declared.words.BillingAlign.TheVariants.{Account, Bundle, Subscription as Own}
 use Rattle.kb_catalog.specs.declared.ask.PlanAsk.{PlanAsk}
-use Rattle.kb_catalog.specs.LookUp.{first_match, fits_billing}
+use Rattle.kb_catalog.specs.LookUp.{first_match, fits_plan}
 use Rattle.kb_catalog.specs.Products.{product_named}
 use Rattle.kb_catalog.specs.Plans.{plan_period, price_in}
 use Rattle.kb_align.specs.Phases.{phase_starts}
@@ -34,7 +34,7 @@ ask_of choice phase = record {
 -- whose cycle day is used, by the rules of the plan's version
 abbrev pub billing_align : Choice → Phase → Option BillingAlign
 billing_align choice phase =
-    first_match (fits_billing (ask_of choice phase)) (λ (case : BillingCase). case.alignment)
+    first_match (fits_plan (ask_of choice phase)) (λ (case : PlanCase BillingAlign). case.answer)
     choice.version.rules.billing_alignment
 
 -- of some phases with their starts, the start of the first one with a recurring price, where there is one and
