@@ -1,6 +1,7 @@
 pub mod Covered
 pub mod Determined
 pub mod FirstPlaces
+pub mod Intervals
 pub mod Pieces
 pub mod Sessions
 pub mod Summed

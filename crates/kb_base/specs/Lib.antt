@@ -1,5 +1,6 @@
 pub mod Faults
 pub mod Runs
+pub mod Intervals
 pub mod Lines
 pub mod Machine
 pub mod Offenders

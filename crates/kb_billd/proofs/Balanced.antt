@@ -11,7 +11,8 @@ use Rattle.kb_billd.specs.declared.first.item.FirstItem.{FirstItem}
 use Rattle.kb_billd.specs.FirstItems.{Charge, same_cell, wrong_on, without_charge, missing_on, repair_of}
 use Rattle.kb_billd.specs.FirstItems.{bill_of, new_items, IsSettled, day_cost, days_cost, cell_at, cost_if}
 use Rattle.kb_billd.specs.FirstItems.{total, due_cost, charged}
-use Rattle.kb_billd.proofs.SameCell.{same_cell-sound, same_cell-same, nat_eq-same}
+use Rattle.kb_base.proofs.Covered.{nat_eq-same}
+use Rattle.kb_billd.proofs.SameCell.{same_cell-sound, same_cell-same}
 use Rattle.kb_billd.proofs.Charges.{wrong_runs, missing_runs, find-charges_from}
 use Rattle.kb_billd.proofs.OneCharge.{charges_on-none, charges_on-one}
 use Rattle.kb_billd.proofs.Settled.{wrong_among}

@@ -7,29 +7,13 @@ use Rattle.std.proofs.lemmas.Bool.{ne_eqb, cases_lt}
 use Rattle.std.proofs.lemmas.List.Folds.{list_any-append}
 use Rattle.std.proofs.lemmas.Option.{none-some}
 use Rattle.kb_base.specs.Runs.{runs, values_on, IsSame}
-use Rattle.kb_base.proofs.Covered.{runs-cover, runs-before, runs-after}
+use Rattle.kb_base.proofs.Covered.{runs-any_day, nat_eq-same}
 use Rattle.kb_due.specs.declared.first.FirstCell.{FirstCell}
 use Rattle.kb_billd.specs.declared.first.item.FirstItem.{FirstItem}
 use Rattle.kb_billd.specs.FirstItems.{repairs, Charge, charges_on, is_due, wrong_on, repair_of, bill_of}
 use Rattle.kb_billd.specs.FirstItems.{new_items, NamesItems}
-use Rattle.kb_billd.proofs.SameCell.{nat_eq-same}
 use Rattle.kb_billd.proofs.Charges.{is_number, wrong_runs, missing_runs, IsChargeOf, find-charges_from}
 use Rattle.kb_billd.proofs.Charges.{list_any-repairs, list_any-bills}
-
-module _ {V : Type 0} (same : V → V → Bool) (is : IsSame same) (key : ℕ → Option V) (day count d : ℕ)
-    (P : List V → Type 0) where
-  -- what holds of no value, and of the key's value on a day of the window, holds of what the runs have on any
-  -- day
-  runs-any_day : P [] → (day ≤ d → d < day + count → P (option_to_list (key d)))
-      → P (values_on d (runs same key day count))
-  runs-any_day none some = by_place (cases_lt d day) (cases_lt d (day + count))
-    where
-      by_place : (d < day) ⊎ (day ≤ d) → (d < day + count) ⊎ (day + count ≤ d)
-          → P (values_on d (runs same key day count))
-      by_place (inl before) at_end = subst P (sym (runs-before same key day count d before)) none
-      by_place (inr low) (inr after) = subst P (sym (runs-after same key day count d after)) none
-      by_place (inr low) (inl high) =
-          subst P (sym (runs-cover same is key day count d low high)) (some low high)
 
 -- a charge isn't by the due cell
 abbrev pub is_wrong : Option FirstCell → Charge → Bool

@@ -3,14 +3,13 @@ use Rattle.std.proofs.Common.{◌≡◌, ℕ, ◌+◌, ◌-◌, nat_eq, List, ma
 use Rattle.std.proofs.Common.{arith}
 use Rattle.std.proofs.lemmas.List.Elements.{All-append, All-map, All-weaker, All-get_or}
 use Rattle.kb_base.specs.Runs.{Stretch, IsStretch}
-use Rattle.kb_base.proofs.Covered.{each-run}
+use Rattle.kb_base.proofs.Covered.{each-run, nat_eq-same}
 use Rattle.kb_due.specs.declared.first.FirstCell.{FirstCell}
 use Rattle.kb_billd.specs.declared.first.item.FirstItem.{FirstItem}
 use Rattle.kb_billd.specs.declared.first.item.FirstItem.TheVariants.{Bill}
 use Rattle.kb_billd.specs.FirstItems.{Charge, wrong_on, repair_of, bill_of, new_items, cell_at, IsDayOf}
 use Rattle.kb_billd.specs.FirstItems.{AreDaysOf, IsInCell, AreInCells}
 use Rattle.kb_billd.specs.Private.FirstItems.{IsCellOf, IsPriced}
-use Rattle.kb_billd.proofs.SameCell.{nat_eq-same}
 use Rattle.kb_billd.proofs.Charges.{wrong_runs, missing_runs, IsChargeOf}
 use Rattle.kb_billd.proofs.Named.{wrong_on-charge}
 use Rattle.kb_billd.proofs.InCells.{bills-in-cells}

@@ -1,4 +1,4 @@
--- The tests for the same cell and the same number tell just that.
+-- The test for the same cell tells just that.
 use Rattle.std.proofs.Common.{◌≡◌, ℕ, true, nat_eq, ◌&&◌, refl}
 use Rattle.std.proofs.lemmas.Bool.{and_parts, eqb-true, eq-eqb}
 use Rattle.kb_base.specs.Runs.{IsSame}
@@ -26,7 +26,3 @@ same_cell-complete a = rw (eq-eqb a.start a.start refl, eq-eqb a.end a.end refl,
 -- the test of two cells tells whether they are the same
 pub same_cell-same : IsSame same_cell
 same_cell-same = record { sound = same_cell-sound; complete = same_cell-complete }
-
--- the test of two numbers tells whether they are the same
-pub nat_eq-same : IsSame nat_eq
-nat_eq-same = record { sound = eqb-true; complete = λ a. eq-eqb a a refl }

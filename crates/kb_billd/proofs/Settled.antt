@@ -7,13 +7,13 @@ use Rattle.std.proofs.lemmas.Bool.{eq-eqb}
 use Rattle.std.proofs.lemmas.List.{map-append}
 use Rattle.std.proofs.lemmas.List.Folds.{list_any-append}
 use Rattle.kb_base.specs.Runs.{Stretch, values_on}
-use Rattle.kb_base.proofs.Covered.{runs-cover}
+use Rattle.kb_base.proofs.Covered.{runs-cover, nat_eq-same}
 use Rattle.kb_due.specs.declared.first.FirstCell.{FirstCell}
 use Rattle.kb_billd.specs.declared.first.item.FirstItem.{FirstItem}
 use Rattle.kb_billd.specs.FirstItems.{repairs, Charge, charges_from, charges_on, same_cell, wrong_on}
 use Rattle.kb_billd.specs.FirstItems.{without_charge, missing_on, repair_of, bill_of, new_items, IsSettled}
 use Rattle.kb_billd.specs.FirstItems.{NamesItems}
-use Rattle.kb_billd.proofs.SameCell.{same_cell-sound, same_cell-same, nat_eq-same}
+use Rattle.kb_billd.proofs.SameCell.{same_cell-sound, same_cell-same}
 use Rattle.kb_billd.proofs.Charges.{cells, is_number, wrong_runs, missing_runs, charges_from-append}
 use Rattle.kb_billd.proofs.Charges.{charges_from-repairs, charges_from-taken, charges_from-bills}
 use Rattle.kb_billd.proofs.Charges.{list_any-repairs, list_any-bills}

@@ -4,12 +4,12 @@ use Rattle.std.proofs.Common.{◌∷◌, map, Option, option_to_list, refl, ap, 
 use Rattle.std.specs.List.{list_any}
 use Rattle.std.proofs.lemmas.List.Folds.{list_any-append}
 use Rattle.kb_base.specs.Runs.{Stretch, values_on, has_day}
-use Rattle.kb_base.proofs.Covered.{runs-cover, runs-before, runs-after}
+use Rattle.kb_base.proofs.Covered.{runs-cover, runs-before, runs-after, nat_eq-same}
 use Rattle.kb_due.specs.declared.first.FirstCell.{FirstCell}
 use Rattle.kb_billd.specs.declared.first.item.FirstItem.{FirstItem}
 use Rattle.kb_billd.specs.FirstItems.{same_cell, wrong_on, missing_on, repair_of, bill_of, new_items}
 use Rattle.kb_billd.specs.FirstItems.{IsSettled, item_has_day}
-use Rattle.kb_billd.proofs.SameCell.{same_cell-same, nat_eq-same}
+use Rattle.kb_billd.proofs.SameCell.{same_cell-same}
 use Rattle.kb_billd.proofs.Charges.{wrong_runs, missing_runs}
 use Rattle.kb_billd.proofs.OneCharge.{wrong-same, missing-same}
 

@@ -3,3 +3,4 @@ pub mod Periods
 pub mod KeptDays
 pub mod CountedPhases
 pub mod DueCells
+pub mod SameCells

@@ -4,6 +4,7 @@ pub mod Governing
 pub mod Life
 pub mod CycleDays
 pub mod Cells
+pub mod CellStretches
 pub mod DueDays
 pub mod Entitlements
 pub mod SmallFacts

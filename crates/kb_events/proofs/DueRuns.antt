@@ -10,10 +10,10 @@ use Rattle.kb_due.specs.Life.{is_live_of}
 use Rattle.kb_due.specs.Cells.{is_unbilled, cell_by}
 use Rattle.kb_due.specs.DueDays.{event_by, due_of}
 use Rattle.kb_events.specs.Private.BegunCells.{begun_cell}
-use Rattle.kb_events.specs.Pieces.{same_cell}
+use Rattle.kb_due.specs.CellStretches.{same_cell}
 use Rattle.kb_events.specs.Private.QuietDays.{IsQuietBetween}
-use Rattle.kb_events.proofs.SameCells.{same_cell-same}
-use Rattle.kb_events.proofs.Intervals.{push_run-runs}
+use Rattle.kb_due.proofs.SameCells.{same_cell-same}
+use Rattle.kb_base.proofs.Intervals.{push_run-runs}
 use Rattle.kb_events.proofs.QuietCells.{due_of-quiet, due_of-dead, due_of-blocked, due_of-nothing}
 use Rattle.kb_events.proofs.LastEvents.{due_by-late, due_by-begun}
 

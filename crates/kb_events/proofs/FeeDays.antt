@@ -10,7 +10,7 @@ use Rattle.kb_due.specs.Facts.{FactsValue}
 use Rattle.kb_due.specs.DueDays.{fee_of}
 use Rattle.kb_events.specs.Private.Cuts.{HasDay, AreCuts, ArePassed, IsGap}
 use Rattle.kb_events.specs.Private.Ends.{IsLifeEnd}
-use Rattle.kb_events.specs.Pieces.{same_cell}
+use Rattle.kb_due.specs.CellStretches.{same_cell}
 use Rattle.kb_events.specs.Private.QuietDays.{IsSteadyBetween}
 use Rattle.kb_events.proofs.BetweenCuts.{IsSteadyBetween-gap}
 use Rattle.kb_events.proofs.PassedCuts.{ArePassed-next, IsGap-passed, Contains-passed}

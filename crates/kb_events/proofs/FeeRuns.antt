@@ -10,11 +10,11 @@ use Rattle.kb_due.specs.Facts.{FactsValue}
 use Rattle.kb_due.specs.Governing.{Governing, governing_on, IsBegun}
 use Rattle.kb_due.specs.Life.{is_live_of}
 use Rattle.kb_due.specs.DueDays.{fee_by, fee_of}
-use Rattle.kb_events.specs.Private.Intervals.{push_run}
-use Rattle.kb_events.specs.Pieces.{same_cell}
+use Rattle.kb_base.specs.Intervals.{push_run}
+use Rattle.kb_due.specs.CellStretches.{same_cell}
 use Rattle.kb_events.specs.Private.QuietDays.{IsSteadyBetween}
-use Rattle.kb_events.proofs.SameCells.{same_cell-same}
-use Rattle.kb_events.proofs.Intervals.{push_run-runs}
+use Rattle.kb_due.proofs.SameCells.{same_cell-same}
+use Rattle.kb_base.proofs.Intervals.{push_run-runs}
 use Rattle.kb_events.proofs.SteadyGoverning.{governing_on-steady}
 use Rattle.kb_events.proofs.DueRuns.{runs-empty}
 

@@ -8,7 +8,7 @@ use Rattle.kb_due.specs.declared.cell.Cell.{Cell}
 use Rattle.kb_due.specs.Facts.{FactsValue}
 use Rattle.kb_due.specs.DueDays.{fee_on}
 use Rattle.kb_due.proofs.DueCells.{fee_on-one_day}
-use Rattle.kb_events.specs.Pieces.{same_cell}
+use Rattle.kb_due.specs.CellStretches.{same_cell}
 
 -- a stretch with one fee cell has one day
 pub IsStretch-one_day : (facts : FactsValue) (sub billed day end : ℕ) (stretch : Stretch Cell)

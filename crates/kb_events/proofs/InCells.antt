@@ -9,9 +9,9 @@ use Rattle.kb_due.specs.declared.cell.Cell.{Cell}
 use Rattle.kb_due.specs.Facts.{FactsValue}
 use Rattle.kb_due.specs.DueDays.{due_on, fee_on}
 use Rattle.kb_due.proofs.DueCells.{due_on-has_day, fee_on-one_day}
-use Rattle.kb_events.specs.Pieces.{same_cell, IsInCell}
+use Rattle.kb_due.specs.CellStretches.{same_cell, IsInCell}
 use Rattle.kb_events.proofs.FeesOfOneDay.{IsStretch-one_day}
-use Rattle.kb_events.specs.Private.Intervals.{push_stretch, push_run}
+use Rattle.kb_base.specs.Intervals.{push_stretch, push_run}
 use Rattle.kb_events.specs.Private.Shorts.{IsShort, AreShort}
 
 -- what two clauses say of a result

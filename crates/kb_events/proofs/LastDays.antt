@@ -13,8 +13,9 @@ use Rattle.kb_due.specs.declared.cell.Cell.{Cell}
 use Rattle.kb_due.specs.declared.cell.Piece.{Piece}
 use Rattle.kb_due.specs.Facts.{FactsValue}
 use Rattle.kb_due.specs.DueDays.{due_on, charged_until, charged_through}
-use Rattle.kb_events.specs.Pieces.{same_cell, stretch_of, pieces}
-use Rattle.kb_events.proofs.SameCells.{same_cell-same}
+use Rattle.kb_due.specs.CellStretches.{same_cell, stretch_of}
+use Rattle.kb_events.specs.Pieces.{pieces}
+use Rattle.kb_due.proofs.SameCells.{same_cell-same}
 
 -- where no day up to one passes a test, the last one that does is 0
 last_day_on-none : (test : ℕ → Bool) (day : ℕ) → ((other : ℕ) → other ≤ day → test other ≡ false)

@@ -1,8 +1,6 @@
 pub mod SteadyFlags
 pub mod SteadyEvents
 pub mod SteadyPeriods
-pub mod Intervals
-pub mod SameCells
 pub mod SteadyEntries
 pub mod SteadyPhases
 pub mod SteadyGoverning

@@ -8,8 +8,9 @@ use Rattle.kb_timeline.specs.declared.subscription.Subscription.{Subscription}
 use Rattle.kb_due.specs.declared.cell.Cell.{Cell}
 use Rattle.kb_due.specs.Facts.{FactsValue, subscription_at}
 use Rattle.kb_due.specs.DueDays.{due_of, due_on, fee_of, fee_on}
-use Rattle.kb_events.specs.Pieces.{same_cell, pieces, fees}
-use Rattle.kb_events.proofs.SameCells.{same_cell-same}
+use Rattle.kb_due.specs.CellStretches.{same_cell}
+use Rattle.kb_events.specs.Pieces.{pieces, fees}
+use Rattle.kb_due.proofs.SameCells.{same_cell-same}
 use Rattle.kb_events.proofs.NamedDays.{due_of-early, fee_of-early}
 
 pub pieces-own : (facts : FactsValue) (sub billed : ℕ) (subscription : Subscription)

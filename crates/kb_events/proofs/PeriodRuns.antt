@@ -12,10 +12,10 @@ use Rattle.kb_due.specs.Governing.{Governing}
 use Rattle.kb_due.specs.CycleDays.{cycle_day}
 use Rattle.kb_due.specs.Cells.{cell_by}
 use Rattle.kb_events.specs.Private.BegunCells.{begun_by, begun_cell}
-use Rattle.kb_events.specs.Private.Intervals.{push_run}
-use Rattle.kb_events.specs.Pieces.{same_cell}
-use Rattle.kb_events.proofs.SameCells.{same_cell-same}
-use Rattle.kb_events.proofs.Intervals.{push_run-runs}
+use Rattle.kb_base.specs.Intervals.{push_run}
+use Rattle.kb_due.specs.CellStretches.{same_cell}
+use Rattle.kb_due.proofs.SameCells.{same_cell-same}
+use Rattle.kb_base.proofs.Intervals.{push_run-runs}
 use Rattle.kb_events.proofs.PeriodCells.{cell_by-within, cell_by-none, begun_cell-later}
 
 module _ (facts : FactsValue) (subscription : Subscription) (governing : Governing) (billed : ℕ) where

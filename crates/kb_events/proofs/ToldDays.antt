@@ -11,7 +11,7 @@ use Rattle.kb_due.specs.DueDays.{due_of}
 use Rattle.kb_events.specs.Private.Courses.{IsCourse}
 use Rattle.kb_events.specs.Private.Cuts.{ArePassed, IsGap}
 use Rattle.kb_events.specs.Private.Ends.{IsLifeEnd}
-use Rattle.kb_events.specs.Pieces.{same_cell}
+use Rattle.kb_due.specs.CellStretches.{same_cell}
 use Rattle.kb_events.specs.Private.QuietDays.{IsQuietBetween}
 use Rattle.kb_events.specs.Private.Standing.{AreTurns, IsStanding, KeepsFlag}
 use Rattle.kb_events.proofs.BetweenCuts.{IsQuietBetween-gap}

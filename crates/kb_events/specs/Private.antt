@@ -1,5 +1,4 @@
 -- What private contracts and proofs speak of: cuts, quiet days, and how the billing flag stands.
-pub mod Intervals
 pub mod Shorts
 pub mod Quiet
 pub mod Ends

@@ -11,7 +11,7 @@ use Rattle.kb_align.specs.PeriodDays.{max_period_days}
 use Rattle.kb_due.specs.Cells.{cell_on}
 use Rattle.kb_due.specs.DueDays.{due_on, fee_on}
 use Rattle.kb_due.specs.SmallFacts.{facts, gold_in_march}
-use Rattle.kb_events.specs.Pieces.{same_cell, IsInCell}
+use Rattle.kb_due.specs.CellStretches.{same_cell, IsInCell}
 
 -- from its change on the days of March are one piece, and none of April is due yet
 piece_of_march : runs same_cell (due_on facts 0 (march 11)) (march 8) 26

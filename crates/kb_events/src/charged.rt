@@ -6,7 +6,7 @@ ghost use Rattle.kb_due.specs.declared.cell.Piece as piece_type;
 ghost use Rattle.kb_due.specs.DueDays as due;
 ghost use Rattle.kb_due.specs.Facts.{FactsValue};
 ghost use Rattle.kb_events.specs.Pieces as told;
-ghost use Rattle.kb_events.specs.Pieces.{stretch_of};
+ghost use Rattle.kb_due.specs.CellStretches.{stretch_of};
 
 use kb_days::Reach;
 use kb_due::Piece;

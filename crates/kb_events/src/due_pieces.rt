@@ -6,7 +6,7 @@ ghost use Rattle.kb_days.specs.Calendar.{first_day, charged_days, end_of_days};
 ghost use Rattle.kb_due.specs.Facts.{chain_of};
 ghost use Rattle.kb_due.specs.DueDays.{due_of, due_on};
 ghost use Rattle.kb_events.specs.Pieces as told;
-ghost use Rattle.kb_events.specs.Pieces.{same_cell, stretch_of, IsInCell};
+ghost use Rattle.kb_due.specs.CellStretches.{same_cell, stretch_of, IsInCell};
 ghost use Rattle.kb_events.specs.Private.Courses.{IsCourse};
 ghost use Rattle.kb_events.specs.Private.Ends.{IsLifeEnd};
 ghost use Rattle.kb_events.specs.Private.QuietDays.{IsQuietBetween};

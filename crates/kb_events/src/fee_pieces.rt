@@ -9,7 +9,7 @@ ghost use Rattle.kb_events.specs.Private.Cuts.{HasDay, AreCuts};
 ghost use Rattle.kb_events.specs.Private.Ends.{IsLifeEnd};
 ghost use Rattle.kb_events.specs.Private.QuietDays.{IsSteadyBetween};
 ghost use Rattle.kb_events.specs.Pieces as told;
-ghost use Rattle.kb_events.specs.Pieces.{same_cell, stretch_of, IsInCell};
+ghost use Rattle.kb_due.specs.CellStretches.{same_cell, stretch_of, IsInCell};
 
 use crate::course::{Course, course_of};
 use crate::cutting::cut_day;

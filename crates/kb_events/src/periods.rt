@@ -3,7 +3,7 @@ ghost use Rattle.std.specs.Prelude.{◌≡◌, ◌<◌, ◌≤◌, ◌+◌, ◌-
 ghost use Rattle.kb_base.specs.Runs.{runs};
 ghost use Rattle.kb_days.specs.Calendar.{first_day, last_charged};
 ghost use Rattle.kb_due.specs.declared.cell.Cell.{Cell};
-ghost use Rattle.kb_events.specs.Pieces.{same_cell, stretch_of};
+ghost use Rattle.kb_due.specs.CellStretches.{same_cell, stretch_of};
 ghost use Rattle.kb_events.specs.Private.BegunCells.{begun_cell};
 ghost use Rattle.kb_events.specs.Private.Shorts.{AreShort};
 

@@ -1,7 +1,7 @@
 //! Pieces that are told one after another.
 ghost use Rattle.std.specs.Prelude.{◌≡◌, ◌++◌, ◌∷◌, [], map, OnOk};
-ghost use Rattle.kb_events.specs.Private.Intervals.{last_two, push_run};
-ghost use Rattle.kb_events.specs.Pieces.{same_cell, stretch_of};
+ghost use Rattle.kb_base.specs.Intervals.{last_two, push_run};
+ghost use Rattle.kb_due.specs.CellStretches.{same_cell, stretch_of};
 
 use kb_base::NoMemory;
 use kb_days::Reach;

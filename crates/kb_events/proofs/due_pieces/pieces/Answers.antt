@@ -4,7 +4,7 @@ use Rattle.std.proofs.lemmas.Result.{IfOk-weaker}
 use Rattle.kb_days.specs.Calendar.{first_day, end_of_days}
 use Rattle.kb_due.specs.Facts.{FactsValue, subscription_at}
 use Rattle.kb_due.proofs.DueCells.{due_on-late}
-use Rattle.kb_events.specs.Pieces.{stretch_of}
+use Rattle.kb_due.specs.CellStretches.{stretch_of}
 use Rattle.kb_events.proofs.InCells.{IfOk-both, AreRuns-in_cells}
 use Rattle.kb_events.proofs.OwnRuns.{pieces-own, pieces-longest, due_on-early}
 use Rattle.kb_events.proofs.due_pieces.pieces.Goals as goal

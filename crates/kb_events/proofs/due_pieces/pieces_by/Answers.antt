@@ -3,7 +3,7 @@ use Rattle.std.proofs.Common.{◌<◌, ℕ, List, length, get_or, map, sym, subs
 use Rattle.kb_days.specs.Calendar.{first_day}
 use Rattle.kb_due.specs.Facts.{FactsValue, chain_of}
 use Rattle.kb_blocking.specs.declared.state.Chain.{Chain}
-use Rattle.kb_events.specs.Pieces.{stretch_of}
+use Rattle.kb_due.specs.CellStretches.{stretch_of}
 use Rattle.kb_events.specs.Private.Standing.{AreTurns, IsStanding}
 use Rattle.kb_events.proofs.InCells.{AreShort-none}
 use Rattle.kb_events.proofs.PassedCuts.{cut-told}

@@ -1,6 +1,6 @@
 -- The days up to the last cut are told, and it is known how the billing flag stands there.
 use Rattle.std.proofs.Common.{map}
-use Rattle.kb_events.specs.Pieces.{stretch_of}
+use Rattle.kb_due.specs.CellStretches.{stretch_of}
 use Rattle.kb_events.specs.Private.Shorts.{AreShort}
 use Rattle.kb_events.proofs.ToldDays.{IsTold}
 use Rattle.kb_events.proofs.due_pieces.pieces_by.Given as goal

@@ -5,7 +5,7 @@ use Rattle.kb_days.specs.Calendar.{first_day, last_charged}
 use Rattle.kb_due.specs.Facts.{FactsValue}
 use Rattle.kb_due.specs.Governing.{governing_on}
 use Rattle.kb_due.specs.DueDays.{event_by, due_of}
-use Rattle.kb_events.specs.Pieces.{stretch_of}
+use Rattle.kb_due.specs.CellStretches.{stretch_of}
 use Rattle.kb_events.proofs.KeptUntil.{is_live_of-until}
 use Rattle.kb_events.proofs.LastEvents.{event_by-latest}
 use Rattle.kb_events.proofs.DueRuns.{runs-blocked, runs-dead, runs-nothing, runs-undue, due_of-begun}

@@ -1,6 +1,6 @@
 -- From cut to cut.
 use Rattle.std.proofs.Common.{◌<◌, ℕ, List, length, get_or, map, sym, ap, ◌∙◌, arith}
-use Rattle.kb_events.specs.Pieces.{stretch_of}
+use Rattle.kb_due.specs.CellStretches.{stretch_of}
 use Rattle.kb_events.proofs.PassedCuts.{cut-told}
 use Rattle.kb_events.proofs.FeeDays.{AreFeesTold-first, AreFeesTold-next, AreFeesTold-same, AreFeesTold-all}
 use Rattle.kb_events.proofs.fee_pieces.fees_by.Goals as goal

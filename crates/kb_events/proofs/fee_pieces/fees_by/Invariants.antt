@@ -1,6 +1,6 @@
 -- The fees of the days up to the last cut are told.
 use Rattle.std.proofs.Common.{map}
-use Rattle.kb_events.specs.Pieces.{stretch_of}
+use Rattle.kb_due.specs.CellStretches.{stretch_of}
 use Rattle.kb_events.proofs.FeeDays.{AreFeesTold}
 use Rattle.kb_events.proofs.fee_pieces.fees_by.Given as goal
 

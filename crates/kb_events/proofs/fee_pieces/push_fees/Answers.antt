@@ -5,7 +5,7 @@ use Rattle.std.proofs.lemmas.Result.{on_ok_weaker}
 use Rattle.kb_days.specs.Calendar.{first_day, last_charged}
 use Rattle.kb_due.specs.Facts.{FactsValue}
 use Rattle.kb_due.specs.Governing.{governing_on}
-use Rattle.kb_events.specs.Pieces.{stretch_of}
+use Rattle.kb_due.specs.CellStretches.{stretch_of}
 use Rattle.kb_events.proofs.KeptUntil.{is_live_of-until}
 use Rattle.kb_events.proofs.FeeRuns.{fees-late, fees-dead, fees-nothing, fees-governed}
 use Rattle.kb_events.proofs.fee_pieces.push_fees.Goals as goal

@@ -1,6 +1,6 @@
 -- Each period is told after those before it, until one has no cell or begins after the billed date.
 use Rattle.std.proofs.Common.{rules, ◌<◌, ◌≤◌, sym, subst, ◌∙◌, map, arith}
-use Rattle.kb_events.specs.Pieces.{stretch_of}
+use Rattle.kb_due.specs.CellStretches.{stretch_of}
 use Rattle.kb_events.specs.Private.Shorts.{AreShort}
 use Rattle.kb_events.proofs.InCells.{push_run-short}
 use Rattle.kb_events.proofs.PeriodRuns.{runs-none, runs-late, runs-period}

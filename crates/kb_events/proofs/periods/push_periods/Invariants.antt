@@ -2,7 +2,7 @@
 use Rattle.std.proofs.Common.{◌≡◌, ℕ, ◌-◌, ◌≤◌, Option, map}
 use Rattle.kb_base.specs.Runs.{runs}
 use Rattle.kb_due.specs.declared.cell.Cell.{Cell}
-use Rattle.kb_events.specs.Pieces.{same_cell, stretch_of}
+use Rattle.kb_due.specs.CellStretches.{same_cell, stretch_of}
 use Rattle.kb_events.specs.Private.Shorts.{AreShort}
 use Rattle.kb_events.proofs.PeriodRuns.{IsBegunKey}
 use Rattle.kb_events.proofs.periods.push_periods.Given as goal

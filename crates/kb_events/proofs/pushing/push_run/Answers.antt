@@ -3,8 +3,8 @@ use Rattle.std.proofs.Common.{◌∷◌, [], map}
 use Rattle.std.proofs.lemmas.List.{map-append}
 use Rattle.kb_base.specs.Runs.{Stretch}
 use Rattle.kb_due.specs.declared.cell.Cell.{Cell}
-use Rattle.kb_events.specs.Pieces.{same_cell, stretch_of}
-use Rattle.kb_events.proofs.Intervals.{push_stretch-last}
+use Rattle.kb_due.specs.CellStretches.{same_cell, stretch_of}
+use Rattle.kb_base.proofs.Intervals.{push_stretch-last}
 use Rattle.kb_events.proofs.pushing.push_run.Goals as goal
 
 pub returns-in-Some-pop : goal.returns-in-Some-pop

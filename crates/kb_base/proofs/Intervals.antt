@@ -4,7 +4,7 @@ use Rattle.std.proofs.Common.{[], ◌∷◌, ◌++◌, Option, Some, None, refl,
 use Rattle.std.proofs.lemmas.Bool.{cond_both, and_parts, and_cases, eqb-true, eqb-false, cases_lt}
 use Rattle.kb_base.specs.Runs.{Stretch, runs, IsSame, HasNone, IsStretch, IsOther, AreRuns}
 use Rattle.kb_base.proofs.Tiled.{runs-are-to, are-runs-only-to}
-use Rattle.kb_events.specs.Private.Intervals.{last_two, push_stretch, push_run}
+use Rattle.kb_base.specs.Intervals.{last_two, push_stretch, push_run}
 
 -- a stretch is pushed behind the last one, whatever stands before that
 pub push_stretch-last : {V : Type 0} (same : V → V → Bool) (front : List (Stretch V)) (last next : Stretch V)

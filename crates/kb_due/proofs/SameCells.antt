@@ -4,7 +4,7 @@ use Rattle.std.proofs.lemmas.Bool.{and_parts, and_from, eqb-true, eq-eqb}
 use Rattle.kb_base.specs.Runs.{IsSame}
 use Rattle.kb_timeline.specs.declared.entry.PlanRef.{PlanRef}
 use Rattle.kb_due.specs.declared.cell.Cell.{Cell}
-use Rattle.kb_events.specs.Pieces.{same_plan, same_cell}
+use Rattle.kb_due.specs.CellStretches.{same_plan, same_cell}
 
 -- three numbers make a reference
 plan_parts : (version version' list list' plan plan' : ℕ) → version ≡ version' → list ≡ list' → plan ≡ plan'
