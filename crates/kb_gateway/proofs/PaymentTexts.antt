@@ -1,18 +1,11 @@
 -- Two payments have different texts, so that no two are given one id by their text.
-use Rattle.std.proofs.Common.{◌≡◌, ℕ, Bool, true, false, ◌&&◌, T, List, [], ◌∷◌, ◌++◌, ap, sym, subst, ◌∙◌}
+use Rattle.std.proofs.Common.{◌≡◌, ℕ, true, ◌&&◌, T, List, [], ◌∷◌, ◌++◌, ap, sym, subst, ◌∙◌}
 use Rattle.std.proofs.Common.{refl, get_or, drop, append_assoc}
 use Rattle.std.proofs.Common.{nat_lt, nat_le, length}
 use Rattle.std.specs.List.{list_all}
+use Rattle.std.proofs.lemmas.Bool.{and_parts}
 use Rattle.kb_days.specs.Names.{is_name_byte, IsName}
 use Rattle.kb_gateway.specs.GatewayIds.{payment_text}
-
-front : (a b : Bool) → (a && b) ≡ true → a ≡ true
-front true b is = refl
-front false b is = is
-
-rest : (a b : Bool) → (a && b) ≡ true → b ≡ true
-rest true b is = is
-rest false b is = absurd (subst T (sym is) tt)
 
 -- a colon is in no name
 no_colon : (byte : ℕ) → is_name_byte byte ≡ true → 58 ≡ byte → ⊥
@@ -24,18 +17,19 @@ split : (account key other_account other_key : List ℕ) → list_all is_name_by
     → (account ≡ other_account) × (key ≡ other_key)
 split [] key [] other_key is other same = (refl, ap (drop 1) same)
 split [] key (byte ∷ others) other_key is other same =
-    absurd (no_colon byte (front (is_name_byte byte) (list_all is_name_byte others) other)
+    absurd (no_colon byte (and_parts (is_name_byte byte) (list_all is_name_byte others) other).0
     (ap (λ xs. get_or xs 0 0) same))
 split (byte ∷ bytes) key [] other_key is other same =
-    absurd (no_colon byte (front (is_name_byte byte) (list_all is_name_byte bytes) is)
+    absurd (no_colon byte (and_parts (is_name_byte byte) (list_all is_name_byte bytes) is).0
     (sym (ap (λ xs. get_or xs 0 0) same)))
 split (byte ∷ bytes) key (other_byte ∷ others) other_key is other same =
-    let later = split bytes key others other_key (rest (is_name_byte byte) (list_all is_name_byte bytes) is)
-    (rest (is_name_byte other_byte) (list_all is_name_byte others) other) (ap (drop 1) same) in
+    let later = split bytes key others other_key (and_parts (is_name_byte byte) (list_all is_name_byte bytes) is).1
+    (and_parts (is_name_byte other_byte) (list_all is_name_byte others) other).1 (ap (drop 1) same) in
     ((λ i. ap (λ xs. get_or xs 0 0) same i ∷ later.0 i), later.1)
 
 name_bytes : (name : List ℕ) → IsName name → list_all is_name_byte name ≡ true
-name_bytes name is = rest (nat_lt 0 (length name) && nat_le (length name) 64) (list_all is_name_byte name) is
+name_bytes name is =
+    (and_parts (nat_lt 0 (length name) && nat_le (length name) 64) (list_all is_name_byte name) is).1
 
 pub payment_text-apart : (account key other_account other_key : List ℕ) → IsName account
     → IsName other_account

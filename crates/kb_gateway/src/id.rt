@@ -1,6 +1,5 @@
 //! The id by which a gateway knows a payment.
-ghost use Rattle.std.specs.Prelude.{◌≡◌, ◌≤◌, length};
-ghost use Rattle.kb_days.specs.Names.{IsName};
+ghost use Rattle.std.specs.Prelude.{◌≡◌};
 ghost use Rattle.kb_gateway.specs.GatewayIds.{uuid_of, payment_text};
 
 use arrayvec::ArrayVec;

@@ -2,8 +2,8 @@
 //!
 //! The rule kept here: a gateway notes each order that it is asked, whether it answers or fails, and looking
 //! up an order asks nothing. It fails only where its count of faults rose. Layers above are proved against
-//! the traits alone, and so may count on every order being asked at most once; the objects in memory serve
-//! their tests.
+//! the traits alone: whatever a gateway tells, its notes say what they asked of it. The objects in memory
+//! serve their tests.
 #![tactic(auto)]
 
 mod gateway;

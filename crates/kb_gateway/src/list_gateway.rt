@@ -1,6 +1,6 @@
 //! A gateway in memory.
 ghost use Rattle.std.specs.Prelude.{◌≡◌, ◌≤◌, ◌↔◌, drop, option_map, None, IsErr, IsOk, IsSome, IsTrue, IfOk};
-ghost use Rattle.std.specs.Prelude.{OnErr, OnOk};
+ghost use Rattle.std.specs.Prelude.{◌⊎◌, OnErr, OnOk};
 ghost use Rattle.kb_base.specs.Faults.{next_count, HasCause};
 ghost use Rattle.kb_ports.specs.Memory.{fails_next};
 ghost use Rattle.kb_gateway.specs.Answers.{Notes, asked_of, said_of_ask, said_of_look_up};
@@ -216,7 +216,15 @@ impl Gateway for ListGateway {
         ensures calm { OnOk result (self.new.faults ≡ self.old.faults) }
         ensures rising { self.old.faults ≤ self.new.faults }
         ensures fails { IsTrue (fails_next self.old.failing self.old.calls) → IsErr result }
+        ensures failed { OnErr result (IsTrue (fails_next self.old.failing self.old.calls)
+            ⊎ (self.new.said ≡ None)) }
         ensures told { IfOk result (λ told. told ≡ next_told self.old.told) }
+        ensures left { OnOk result (self.new ≡ record self.old {
+          told = drop 1 self.old.told;
+          calls = next_count self.old.calls;
+          asked = self.new.asked;
+          said = self.new.said;
+        }) }
     {
         self.note_asked(order);
         let answer = self.next_told();
@@ -237,7 +245,14 @@ impl Gateway for ListGateway {
         ensures calm { OnOk result (self.new.faults ≡ self.old.faults) }
         ensures rising { self.old.faults ≤ self.new.faults }
         ensures fails { IsTrue (fails_next self.old.failing self.old.calls) → IsErr result }
+        ensures failed { OnErr result (IsTrue (fails_next self.old.failing self.old.calls)
+            ⊎ (self.new.said ≡ None)) }
         ensures seen { IfOk result (λ seen. seen ≡ next_seen self.old.seen) }
+        ensures left { OnOk result (self.new ≡ record self.old {
+          seen = drop 1 self.old.seen;
+          calls = next_count self.old.calls;
+          said = self.new.said;
+        }) }
     {
         let answer = self.next_seen();
         let heard = match answer {

@@ -1,5 +1,5 @@
 //! A market in memory.
-ghost use Rattle.std.specs.Prelude.{◌≡◌, ◌≤◌, ◌∷◌, IsErr, IsTrue, IfOk, OnErr, OnOk};
+ghost use Rattle.std.specs.Prelude.{◌≡◌, ◌≤◌, ◌⊎◌, ◌↔◌, [], ◌∷◌, IsErr, IsTrue, IfOk, OnErr, OnOk};
 ghost use Rattle.kb_base.specs.Faults.{next_count, HasCause};
 ghost use Rattle.kb_ports.specs.Memory.{fails_next};
 ghost use Rattle.kb_gateway.specs.ListGateways.{new_market};
@@ -61,9 +61,15 @@ impl Market for ListMarket {
         ensures cause { HasCause self.old.faults self.new.faults result }
         ensures calm { OnOk result (self.new.faults ≡ self.old.faults) }
         ensures rising { self.old.faults ≤ self.new.faults }
-        ensures fails { IsTrue (fails_next self.old.failing self.old.calls) → IsErr result }
+        ensures fails { IsErr result ↔ (IsTrue (fails_next self.old.failing self.old.calls)
+            ⊎ (self.old.gateways ≡ [])) }
         ensures next { IfOk result (λ gateway. self.old.gateways ≡ gateway ∷ self.new.gateways) }
         ensures kept { OnErr result (self.new.gateways ≡ self.old.gateways) }
+        ensures left { self.new ≡ record self.old {
+          gateways = self.new.gateways;
+          calls = next_count self.old.calls;
+          faults = self.new.faults;
+        } }
     {
         self.calls.begin()?;
         match self.gateways.pop_front() {

@@ -16,7 +16,7 @@ use Rattle.kb_payment.specs.Attempts.{is_open, is_success, is_paid_purchase, tak
 use Rattle.kb_sharing.specs.Keys.{by_words}
 use Rattle.kb_payment.specs.PaymentSums.{PaymentsValue, attempt_of, with_attempt, taken_of}
 use Rattle.kb_payment.specs.PaymentSums.{has_automatic_since}
-use Rattle.kb_payment.specs.PaymentEdits.{give_back_of, given_back}
+use Rattle.kb_payment.specs.PaymentEdits.{give_back_of}
 use Rattle.kb_payment.specs.SoundPayments.{NamesPaid, IsSound, ArePayments}
 use Rattle.kb_payment.specs.Private.KeptSums.{AreKept}
 use Rattle.kb_payment.specs.Private.GivenBack.{IsCovered, GivesBack, IsGiveBack}
@@ -172,16 +172,3 @@ chargeback_is payments key of purchase amount day covered = record {
   gives = chargeback_gives;
   sound = chargeback_sound payments key of purchase amount day covered;
 }
-
--- what is given back of a purchase that is there
-pub given_back-found : (kind : Kind) (status : Status) (payments : PaymentsValue) (key of : List ℕ)
-    (purchase : Attempt)
-    → (amount day : ℕ) → attempt_of payments of ≡ Some purchase
-    → given_back kind status payments key of amount day
-    ≡ with_attempt payments key (give_back_of kind status of purchase amount day)
-given_back-found kind status payments key of purchase amount day there =
-    ap (λ (o : Option Attempt). of_purchase o) there
-  where
-    of_purchase : Option Attempt → PaymentsValue
-    of_purchase None = payments
-    of_purchase (Some found) = with_attempt payments key (give_back_of kind status of found amount day)

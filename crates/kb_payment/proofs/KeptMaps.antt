@@ -7,7 +7,6 @@ use Rattle.std.proofs.lemmas.List.Elements.{All-nil}
 use Rattle.std.specs.FinMap.{FinMap, entries, insert, put, empty}
 use Rattle.kb_payment.specs.declared.attempt.Attempt.{Attempt}
 use Rattle.kb_payment.specs.declared.attempt.Status.{Status}
-use Rattle.kb_payment.specs.declared.attempt.Status.TheVariants.{Unknown}
 use Rattle.kb_payment.specs.declared.on_invoice.OnInvoice.{OnInvoice}
 use Rattle.kb_payment.specs.Attempts.{is_open, is_success, with_status}
 use Rattle.kb_sharing.specs.Keys.{by_words}
@@ -22,7 +21,7 @@ use Rattle.kb_payment.proofs.Purchases.{ArePayments-purchased, AreKept-purchased
 use Rattle.kb_payment.proofs.GiveBacks.{ArePayments-given_back, AreKept-given_back}
 use Rattle.kb_payment.proofs.Settlements.{ArePayments-with_status, AreKept-settled_purchase}
 use Rattle.kb_payment.proofs.Settlements.{AreKept-settled_standing}
-use Rattle.kb_payment.proofs.Settlements.{AreKept-settled_failed, taken-enough}
+use Rattle.kb_payment.proofs.Settlements.{AreKept-settled_failed}
 
 -- the attempts are sound, and what is kept beside them are their sums
 abbrev pub AreMaps : FinMap by_words Attempt → FinMap by_words ℕ → FinMap by_words OnInvoice → Type 0
@@ -158,9 +157,3 @@ module _ (now : PaymentsValue) (attempts : FinMap by_words Attempt) (taken : Fin
       (ArePayments-with_status now key old status are there opened)
       (AreKept-settled_failed now key old status are there opened (entries taken) (entries invoices) of before
       kept_now some fails was)
-
-  -- a refund that fails gives back no more than it took
-  pub taken-settled : (old : Attempt) (of : List ℕ) (before : ℕ) → attempt_of now key ≡ Some old
-      → is_open old.status ≡ true → old.of ≡ Some of → pos before ≡ taken_of now of → old.amount ≤ before
-  taken-settled old of before there opened some was =
-      taken-enough now key old Unknown are there opened of before some was

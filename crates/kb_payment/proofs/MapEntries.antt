@@ -1,8 +1,9 @@
 -- Shared maps by their entries.
-use Rattle.std.proofs.Common.{◌≡◌, ℕ, sym, ap, ◌∙◌, refl, List, [], ◌∷◌, length, Option, arith}
+use Rattle.std.proofs.Common.{◌≡◌, ℕ, sym, ap, ◌∙◌, List, [], Option}
 use Rattle.std.specs.Cmp.Lexicographic.{nat_list_cmp_total}
 use Rattle.std.specs.FinMap.{FinMap, find, put, entries, get, insert, empty, len, get-entries, entries-insert}
 use Rattle.std.specs.FinMap.{len-entries, len-empty}
+use Rattle.std.proofs.lemmas.List.{nil_from_length}
 use Rattle.kb_sharing.specs.Keys.{by_words}
 
 -- what is found in a map is found among its entries
@@ -16,11 +17,7 @@ pub entries-with : {X : Type 0} (old new : FinMap by_words X) (key : List ℕ) (
     → entries new ≡ put by_words key value (entries old)
 entries-with old new key value is = ap entries is ∙ entries-insert nat_list_cmp_total old key value
 
-none_of_length : {A : Type 0} (xs : List A) → length xs ≡ 0 → xs ≡ []
-none_of_length [] is = refl
-none_of_length (x ∷ xs) is = absurd (omega arith)
-
 -- a new map has none
 pub entries-none : {X : Type 0} (m : FinMap by_words X) → m ≡ empty → entries m ≡ []
 entries-none {X} m is =
-    none_of_length (entries m) (sym (len-entries m) ∙ ap len is ∙ len-empty by_words X)
+    nil_from_length (entries m) (sym (len-entries m) ∙ ap len is ∙ len-empty by_words X)

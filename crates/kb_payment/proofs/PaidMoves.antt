@@ -3,6 +3,7 @@ use Rattle.std.proofs.Common.{◌≡◌, ℕ, ap, ◌∙◌, refl, Bool, true, f
 use Rattle.std.proofs.Common.{ℤ, pos, ◌+ℤ◌, ◌&&◌, arith, ◌==◌, if◌then◌else◌}
 use Rattle.std.specs.Cmp.Lexicographic.{nat_list_cmp_total}
 use Rattle.std.proofs.lemmas.Int.{ints}
+use Rattle.std.proofs.lemmas.Bool.{and_right}
 use Rattle.kb_payment.specs.declared.attempt.Attempt.{Attempt}
 use Rattle.kb_payment.specs.declared.attempt.Status.{Status}
 use Rattle.kb_payment.specs.Attempts.{is_open, is_success, signed, paid_by, with_status}
@@ -13,10 +14,6 @@ use Rattle.kb_payment.proofs.PutEntries.{same_keys}
 use Rattle.kb_payment.proofs.PutSums.{sum-put_new, sum-put_old}
 use Rattle.kb_payment.proofs.FoundAttempts.{Stay-new, Stay-other}
 use Rattle.kb_payment.proofs.Settlements.{open_unpaid}
-
-never : (b : Bool) → (b && false) ≡ false
-never true = refl
-never false = refl
 
 -- what an attempt pays, by its status
 paid_by-at : (attempt : Attempt) (invoice : ℕ) (success : Bool) → is_success attempt.status ≡ success
@@ -30,7 +27,7 @@ paid_by-none : (attempt : Attempt) (invoice : ℕ) → is_success attempt.status
     → paid_by invoice attempt ≡ pos 0
 paid_by-none attempt invoice is =
     paid_by-at attempt invoice false is
-    ∙ ap (λ b. if b then signed attempt.kind attempt.amount else pos 0) (never (attempt.invoice == invoice))
+    ∙ ap (λ b. if b then signed attempt.kind attempt.amount else pos 0) (and_right (attempt.invoice == invoice) false refl)
 
 -- and then that on its invoice alone
 here_only : (same success : Bool) (amount : ℤ)

@@ -6,7 +6,7 @@ use Rattle.std.proofs.Common.{if◌then◌else◌, nat_le}
 use Rattle.std.specs.Cmp.Lexicographic.{nat_list_cmp_total}
 use Rattle.std.specs.FinMap.{put}
 use Rattle.std.proofs.lemmas.Int.{ints}
-use Rattle.std.proofs.lemmas.Bool.{eq-eqb}
+use Rattle.std.proofs.lemmas.Bool.{eq-eqb, and_right}
 use Rattle.std.proofs.lemmas.Slice.Eq.{bytes_eq-Decides}
 use Rattle.kb_payment.specs.declared.attempt.Attempt.{Attempt}
 use Rattle.kb_payment.specs.declared.attempt.Kind.{Kind}
@@ -20,7 +20,6 @@ use Rattle.kb_payment.specs.Attempts.{open_by, is_automatic, with_status}
 use Rattle.kb_sharing.specs.Keys.{by_words}
 use Rattle.kb_payment.specs.PaymentSums.{PaymentsValue, attempt_of, with_attempt, taken_of, open_purchases}
 use Rattle.kb_payment.specs.PaymentSums.{has_automatic_since}
-use Rattle.kb_payment.specs.PaymentEdits.{settled}
 use Rattle.kb_payment.specs.SoundPayments.{IsSoundAs, IsSound, ArePayments}
 use Rattle.kb_payment.specs.Private.KeptSums.{is_since, AreKept}
 use Rattle.kb_payment.proofs.PutEntries.{same_keys, All-find, list_any-put_old}
@@ -37,13 +36,9 @@ open_unpaid Success is = absurd (subst T (sym is) tt)
 open_unpaid PaymentFailure is = refl
 open_unpaid PluginFailure is = refl
 
-never : (b : Bool) → (b && false) ≡ false
-never true = refl
-never false = refl
-
 unpaid_of_open : (attempt : Attempt) → is_open attempt.status ≡ true → is_paid_purchase attempt ≡ false
 unpaid_of_open attempt is = ap (is_purchase attempt.kind &&◌) (open_unpaid attempt.status is)
-    ∙ never (is_purchase attempt.kind)
+    ∙ and_right (is_purchase attempt.kind) false refl
 
 -- it is sound with any status, since a chargeback is never open
 sound_as : (kind : Kind) (payments : PaymentsValue) (attempt : Attempt) (status : Status)
@@ -227,7 +222,7 @@ module _ (payments : PaymentsValue) (key : List ℕ) (old : Attempt) (status : S
       none s =
           ap (λ b. if (old.invoice == invoice) && (b && is_open s) then pos 1 else pos 0)
           (give_back_named old.kind payments old of (sound_found payments key old are there) some)
-          ∙ ap (λ b. if b then pos 1 else pos 0) (never (old.invoice == invoice))
+          ∙ ap (λ b. if b then pos 1 else pos 0) (and_right (old.invoice == invoice) false refl)
 
   -- of a refund that has not failed: nothing that is kept changes
   pub AreKept-settled_standing : (taken : List (List ℕ × ℕ)) (invoices : List (List ℕ × OnInvoice))
@@ -277,7 +272,7 @@ module _ (payments : PaymentsValue) (key : List ℕ) (old : Attempt) (status : S
       failed : (asked : List ℕ) → taken_by asked (with_status old status) ≡ pos 0
       failed asked =
           ap (λ b. if names asked old.of && b then pos old.amount else pos 0) fails
-          ∙ ap (λ b. if b then pos old.amount else pos 0) (never (names asked old.of))
+          ∙ ap (λ b. if b then pos old.amount else pos 0) (and_right (names asked old.of) false refl)
 
   -- the amount that is given free was taken
   pub taken-enough : (of : List ℕ) (before : ℕ) → old.of ≡ Some of → pos before ≡ taken_of payments of
@@ -290,13 +285,3 @@ module _ (payments : PaymentsValue) (key : List ℕ) (old : Attempt) (status : S
       ∙ ap (λ b. if bytes_eq of of && b then pos old.amount else pos 0) (counts_open old.status opened)
       ∙ ap (λ b. if b && true then pos old.amount else pos 0) ((bytes_eq-Decides of of).1 refl) in
       omega (arith, ints)
-
--- what a settlement makes of an attempt that is there
-pub settled-found : (payments : PaymentsValue) (key : List ℕ) (old : Attempt) (status : Status)
-    → attempt_of payments key ≡ Some old
-    → settled payments key status ≡ with_attempt payments key (with_status old status)
-settled-found payments key old status there = ap (λ (o : Option Attempt). of_attempt o) there
-  where
-    of_attempt : Option Attempt → PaymentsValue
-    of_attempt None = payments
-    of_attempt (Some attempt) = with_attempt payments key (with_status attempt status)

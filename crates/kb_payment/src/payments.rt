@@ -1,14 +1,10 @@
 //! The payments of an account.
-ghost use Rattle.std.specs.Prelude.{◌≡◌, ◌≤ℤ◌, ◌+ℤ◌, ◌-ℤ◌, ◌<ℤ◌, ℕ, ℤ, pos, neg_ℤ, int_lt, List, None, Some};
-ghost use Rattle.std.specs.Prelude.{Err};
-ghost use Rattle.std.specs.Prelude.{IfOk, IfErr, IfSome, option_copied, if◌then◌else◌};
-ghost use Rattle.kb_payment.specs.Attempts.{is_success, signed};
+ghost use Rattle.std.specs.Prelude.{◌≡◌, ◌≤ℤ◌, ℕ, pos, neg_ℤ, int_lt, None, Err, IfOk, IfErr, IfSome};
+ghost use Rattle.std.specs.Prelude.{option_copied};
 ghost use Rattle.kb_payment.specs.PaymentSums.{attempt_of, open_purchases, has_automatic_since, open_keys};
-ghost use Rattle.kb_payment.specs.PaymentSums.{paid_on};
-ghost use Rattle.kb_payment.specs.PaymentSums.{StayFinal, Moves};
+ghost use Rattle.kb_payment.specs.PaymentSums.{paid_on, StayFinal, Moves};
 ghost use Rattle.kb_payment.specs.PaymentEdits.{no_payments, purchased, purchase_fault, refunded};
-ghost use Rattle.kb_payment.specs.PaymentEdits.{charged_back};
-ghost use Rattle.kb_payment.specs.PaymentEdits.{give_back_fault, settled, settle_fault};
+ghost use Rattle.kb_payment.specs.PaymentEdits.{charged_back, give_back_fault, settled, settle_fault};
 ghost use Rattle.kb_payment.specs.SoundPayments.{ArePayments};
 ghost use Rattle.kb_payment.specs.Private.LentEntries.{open_among};
 

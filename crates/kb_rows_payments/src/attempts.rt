@@ -12,12 +12,13 @@ type Step = (
     &'static str,
     Option<u64>,
     &'static str,
+    i128,
 );
 
-/// A call, its payment key, the invoice or the payment that it names, an amount (none asks for all), and what
-/// it answers. Each invoice has a balance of 1000.
+/// A call, its payment key, the invoice or the payment that it names, an amount (none asks for all), what it
+/// answers, and by how much a settlement moves what is paid. Each invoice has a balance of 1000.
 const STEPS: [Step; 26] = [
-    ("purchase", "p1", 1, "", None, "ok"),
+    ("purchase", "p1", 1, "", None, "ok", 0),
     (
         "purchase",
         "p1",
@@ -25,6 +26,7 @@ const STEPS: [Step; 26] = [
         "",
         None,
         "the payment key has an attempt already: choose another key",
+        0,
     ),
     (
         "purchase",
@@ -33,6 +35,7 @@ const STEPS: [Step; 26] = [
         "",
         Some(5),
         "a payment on the invoice is under way: wait until it is settled",
+        0,
     ),
     (
         "refund",
@@ -41,8 +44,9 @@ const STEPS: [Step; 26] = [
         "p1",
         Some(400),
         "the payment isn't in a state that allows this",
+        0,
     ),
-    ("PENDING", "p1", 0, "", None, "ok"),
+    ("PENDING", "p1", 0, "", None, "ok", 0),
     (
         "purchase",
         "p2",
@@ -50,8 +54,9 @@ const STEPS: [Step; 26] = [
         "",
         Some(5),
         "a payment on the invoice is under way: wait until it is settled",
+        0,
     ),
-    ("SUCCESS", "p1", 0, "", None, "ok"),
+    ("SUCCESS", "p1", 0, "", None, "ok", 1000),
     (
         "UNKNOWN",
         "p1",
@@ -59,6 +64,7 @@ const STEPS: [Step; 26] = [
         "",
         None,
         "the payment isn't in a state that allows this",
+        0,
     ),
     (
         "SUCCESS",
@@ -67,6 +73,7 @@ const STEPS: [Step; 26] = [
         "",
         None,
         "there is no payment of this key",
+        0,
     ),
     (
         "refund",
@@ -75,8 +82,9 @@ const STEPS: [Step; 26] = [
         "p9",
         Some(5),
         "there is no payment of this key",
+        0,
     ),
-    ("refund", "r1", 0, "p1", Some(400), "ok"),
+    ("refund", "r1", 0, "p1", Some(400), "ok", 0),
     (
         "chargeback",
         "c1",
@@ -84,8 +92,9 @@ const STEPS: [Step; 26] = [
         "p1",
         Some(601),
         "the amount is more than is unpaid, or than is left of the payment",
+        0,
     ),
-    ("SUCCESS", "r1", 0, "", None, "ok"),
+    ("SUCCESS", "r1", 0, "", None, "ok", -400),
     (
         "refund",
         "r2",
@@ -93,6 +102,7 @@ const STEPS: [Step; 26] = [
         "r1",
         Some(1),
         "the payment isn't in a state that allows this",
+        0,
     ),
     (
         "chargeback",
@@ -101,8 +111,9 @@ const STEPS: [Step; 26] = [
         "p1",
         Some(601),
         "the amount is more than is unpaid, or than is left of the payment",
+        0,
     ),
-    ("chargeback", "c1", 0, "p1", Some(600), "ok"),
+    ("chargeback", "c1", 0, "p1", Some(600), "ok", 0),
     (
         "PENDING",
         "c1",
@@ -110,6 +121,7 @@ const STEPS: [Step; 26] = [
         "",
         None,
         "the payment isn't in a state that allows this",
+        0,
     ),
     (
         "refund",
@@ -118,6 +130,7 @@ const STEPS: [Step; 26] = [
         "p1",
         Some(1),
         "the amount is more than is unpaid, or than is left of the payment",
+        0,
     ),
     (
         "purchase",
@@ -126,14 +139,15 @@ const STEPS: [Step; 26] = [
         "",
         Some(1001),
         "the amount is more than is unpaid, or than is left of the payment",
+        0,
     ),
-    ("purchase", "p2", 2, "", Some(1000), "ok"),
-    ("PAYMENT_FAILURE", "p2", 0, "", None, "ok"),
-    ("purchase", "p3", 2, "", Some(700), "ok"),
-    ("SUCCESS", "p3", 0, "", None, "ok"),
-    ("refund", "r3", 0, "p3", Some(700), "ok"),
-    ("PLUGIN_FAILURE", "r3", 0, "", None, "ok"),
-    ("refund", "r4", 0, "p3", Some(700), "ok"),
+    ("purchase", "p2", 2, "", Some(1000), "ok", 0),
+    ("PAYMENT_FAILURE", "p2", 0, "", None, "ok", 0),
+    ("purchase", "p3", 2, "", Some(700), "ok", 0),
+    ("SUCCESS", "p3", 0, "", None, "ok", 700),
+    ("refund", "r3", 0, "p3", Some(700), "ok", 0),
+    ("PLUGIN_FAILURE", "r3", 0, "", None, "ok", 0),
+    ("refund", "r4", 0, "p3", Some(700), "ok", 0),
 ];
 
 #[test]
@@ -143,8 +157,8 @@ fn payments_step_by_step(rt: HostRuntime) -> Result<(), Fail> {
     let mut payments = Payments::new(alloc);
     for step in &STEPS {
         match called(alloc, &payments, step, day)? {
-            Ok(next) => {
-                assert_eq!(rt; step.5, "ok", "{}", step.1);
+            Ok((next, moved)) => {
+                assert_eq!(rt; (step.5, step.6), ("ok", moved), "{}", step.1);
                 payments = next;
             }
             Err(fault) => {
@@ -156,31 +170,21 @@ fn payments_step_by_step(rt: HostRuntime) -> Result<(), Fail> {
     Ok(())
 }
 
-/// What a step makes of the payments, or its refusal.
+/// What a step makes of the payments and by how much it moves what is paid, or its refusal.
 fn called(
     alloc: Global,
     payments: &Payments,
     step: &Step,
     day: Day,
-) -> Result<Result<Payments, PayFault>, Fail> {
+) -> Result<Result<(Payments, i128), PayFault>, Fail> {
     let key = named(step.1)?;
-    Ok(match step.0 {
+    let begun = match step.0 {
         "purchase" => payments.purchase(alloc, key, step.2, 1000, step.4, day, false),
         "refund" => payments.refund(alloc, key, named(step.3)?, step.4.unwrap_or(0), day),
         "chargeback" => payments.chargeback(alloc, key, named(step.3)?, step.4.unwrap_or(0), day),
-        word => settled(alloc, payments, key, word),
-    })
-}
-
-/// The payments with a status, or the refusal.
-fn settled(
-    alloc: Global,
-    payments: &Payments,
-    key: Name,
-    word: &str,
-) -> Result<Payments, PayFault> {
-    let (next, _) = payments.settle(alloc, key, status_named(word))?;
-    Ok(next)
+        word => return Ok(payments.settle(alloc, key, status_named(word))),
+    };
+    Ok(begun.map(|next| (next, 0)))
 }
 
 #[test]

@@ -1,5 +1,5 @@
 //! Refunds and chargebacks.
-ghost use Rattle.std.specs.Prelude.{◌≡◌, pos, None, Some, IfOk, IfErr};
+ghost use Rattle.std.specs.Prelude.{◌≡◌, None, Some, IfOk, IfErr};
 ghost use Rattle.kb_payment.specs.PaymentSums.{with_attempt};
 ghost use Rattle.kb_payment.specs.PaymentEdits.{give_back_fault};
 ghost use Rattle.kb_payment.specs.Private.GivenBack.{IsCovered, IsGiveBack};
