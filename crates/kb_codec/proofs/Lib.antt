@@ -1,0 +1,5 @@
+pub mod ShortTexts
+pub mod Readers
+pub mod MemberLaws
+pub mod KindLaws
+pub mod CommandLaws

@@ -1,0 +1,3 @@
+pub mod Members
+pub mod Commands
+pub mod Private

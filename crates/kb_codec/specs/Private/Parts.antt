@@ -1,0 +1,339 @@
+-- The members of each kind of command, in order, and how the kinds are read.
+use Rattle.std.specs.Prelude.{ℕ, Bool, List, [], ◌∷◌, ◌++◌, Option, Some, None, IfSome, slice_get, length}
+use Rattle.std.specs.Prelude.{◌==◌, if◌then◌else◌}
+use Rattle.std.specs.Option.{option_and_then}
+use Rattle.kb_days.specs.Names.{IsName}
+use Rattle.kb_days.specs.declared.period.Period.{Period}
+use Rattle.kb_money.specs.Currency.{IsCurrency}
+use Rattle.kb_payment.specs.declared.attempt.Status.{Status}
+use Rattle.kb_blocking.specs.declared.state.Flags.{Flags}
+use Rattle.kb_catalog_text.specs.Texts.{CatalogText, OverdueText}
+use Rattle.kb_codec.specs.declared.scope.BlockScope.{BlockScope}
+use Rattle.kb_codec.specs.declared.command.Command.{Command}
+use Rattle.kb_codec.specs.declared.command.Command.TheVariants as kinds
+use Rattle.kb_codec.specs.Members.{name_bytes, currency_bytes, bcd_bytes, day_bytes, invoice_bytes}
+use Rattle.kb_codec.specs.Members.{amount_bytes}
+use Rattle.kb_codec.specs.Members.{optional_bytes, truth_bytes, period_bytes, scope_bytes, status_bytes}
+use Rattle.kb_codec.specs.Members.{flags_bytes, text_bytes}
+use Rattle.kb_codec.specs.Commands.{IsDay, IsBcd, IsAmount, IsInvoiceNo, IsCatalogText, IsOverdueText}
+use Rattle.kb_codec.specs.Private.Reading.{Reader, into, chained, name_in, currency_in, bcd_in, day_in}
+use Rattle.kb_codec.specs.Private.Reading.{invoice_in, amount_in}
+use Rattle.kb_codec.specs.Private.Reading.{truth_in, optional_in, period_in, scope_in, status_in, flags_in}
+use Rattle.kb_codec.specs.Private.Reading.{catalog_in, overdue_in}
+use Rattle.kb_codec.specs.Private.Reading as reading
+
+-- a kind of member: how it is spelled, how it is read, and which values there are
+pub record Member (A : Type 0) : Type 1 where
+  pub spell : A → List ℕ
+  pub read : Reader A
+  pub allowed : A → Type 0
+
+-- one member and then another one
+abbrev pub both : {A B : Type 0} → Member A → Member B → Member (A × B)
+both first second = record {
+  spell = λ pair. first.spell pair.0 ++ second.spell pair.1;
+  read = reading.both first.read second.read;
+  allowed = λ pair. first.allowed pair.0 × second.allowed pair.1;
+}
+
+-- a member that may be missing
+abbrev pub optional : {A : Type 0} → Member A → Member (Option A)
+optional member = record {
+  spell = optional_bytes member.spell;
+  read = optional_in member.read;
+  allowed = λ value. IfSome value member.allowed;
+}
+
+-- a name
+abbrev pub name : Member (List ℕ)
+name = record { spell = name_bytes; read = name_in; allowed = IsName }
+
+-- a currency
+abbrev pub currency : Member (List ℕ)
+currency = record { spell = currency_bytes; read = currency_in; allowed = IsCurrency }
+
+-- a day of the month
+abbrev pub bcd : Member ℕ
+bcd = record { spell = bcd_bytes; read = bcd_in; allowed = IsBcd }
+
+-- a day
+abbrev pub day : Member ℕ
+day = record { spell = day_bytes; read = day_in; allowed = IsDay }
+
+-- the number of an invoice
+abbrev pub invoice : Member ℕ
+invoice = record { spell = invoice_bytes; read = invoice_in; allowed = IsInvoiceNo }
+
+-- an amount
+abbrev pub amount : Member ℕ
+amount = record { spell = amount_bytes; read = amount_in; allowed = IsAmount }
+
+-- whether something is on
+abbrev pub truth : Member Bool
+truth = record { spell = truth_bytes; read = truth_in; allowed = λ truth. Unit {0} }
+
+-- a period
+abbrev pub period : Member Period
+period = record { spell = period_bytes; read = period_in; allowed = λ period. Unit {0} }
+
+-- what a blocking state speaks of
+abbrev pub scope : Member BlockScope
+scope = record { spell = scope_bytes; read = scope_in; allowed = λ scope. Unit {0} }
+
+-- how an attempt stands
+abbrev pub status : Member Status
+status = record { spell = status_bytes; read = status_in; allowed = λ status. Unit {0} }
+
+-- the flags of a blocking state
+abbrev pub flags : Member Flags
+flags = record { spell = flags_bytes; read = flags_in; allowed = λ flags. Unit {0} }
+
+-- a catalog text
+abbrev pub catalog : Member CatalogText
+catalog = record { spell = λ text. text_bytes text.text; read = catalog_in; allowed = IsCatalogText }
+
+-- an overdue text
+abbrev pub overdue : Member OverdueText
+overdue = record { spell = λ text. text_bytes text.text; read = overdue_in; allowed = IsOverdueText }
+
+-- the members of kind 1
+abbrev pub catalog_text : Member (List ℕ × CatalogText)
+catalog_text = both name catalog
+
+-- the command of those
+abbrev pub catalog_text_of : List ℕ × CatalogText → Command
+catalog_text_of m = kinds.Catalog (record { key = m.0; text = m.1 })
+
+-- the members of kind 2
+abbrev pub overdue_rules : Member (List ℕ × OverdueText)
+overdue_rules = both name overdue
+
+-- the command of those
+abbrev pub overdue_rules_of : List ℕ × OverdueText → Command
+overdue_rules_of m = kinds.OverdueRules (record { key = m.0; text = m.1 })
+
+-- the members of kind 3
+abbrev pub open_account : Member (List ℕ × (List ℕ × (List ℕ × (ℕ × Bool))))
+open_account = both name (both name (both currency (both bcd truth)))
+
+-- the command of those
+abbrev pub open_account_of : List ℕ × (List ℕ × (List ℕ × (ℕ × Bool))) → Command
+open_account_of m = kinds.OpenAccount (record {
+  account = m.0;
+  key = m.1.0;
+  currency = m.1.1.0;
+  bcd = m.1.1.1.0;
+  autopay = m.1.1.1.1;
+})
+
+-- the members of kind 4
+abbrev pub create : Member (List ℕ × (List ℕ × (List ℕ × (List ℕ × (List ℕ × (Period × (List ℕ
+    × Option ℕ)))))))
+create = both name (both name (both name (both name (both name (both period (both name (optional day)))))))
+
+-- the command of those
+abbrev pub create_of : List ℕ × (List ℕ × (List ℕ × (List ℕ × (List ℕ × (Period × (List ℕ × Option ℕ))))))
+    → Command
+create_of m = kinds.Create (record {
+  account = m.0;
+  key = m.1.0;
+  bundle = m.1.1.0;
+  subscription = m.1.1.1.0;
+  product = m.1.1.1.1.0;
+  period = m.1.1.1.1.1.0;
+  list = m.1.1.1.1.1.1.0;
+  day = m.1.1.1.1.1.1.1;
+})
+
+-- the members of kind 5
+abbrev pub change : Member (List ℕ × (List ℕ × (List ℕ × (List ℕ × (Period × (List ℕ × Option ℕ))))))
+change = both name (both name (both name (both name (both period (both name (optional day))))))
+
+-- the command of those
+abbrev pub change_of : List ℕ × (List ℕ × (List ℕ × (List ℕ × (Period × (List ℕ × Option ℕ))))) → Command
+change_of m = kinds.Change (record {
+  account = m.0;
+  key = m.1.0;
+  subscription = m.1.1.0;
+  product = m.1.1.1.0;
+  period = m.1.1.1.1.0;
+  list = m.1.1.1.1.1.0;
+  day = m.1.1.1.1.1.1;
+})
+
+-- the members of kind 6
+abbrev pub cancel : Member (List ℕ × (List ℕ × (List ℕ × Option ℕ)))
+cancel = both name (both name (both name (optional day)))
+
+-- the command of those
+abbrev pub cancel_of : List ℕ × (List ℕ × (List ℕ × Option ℕ)) → Command
+cancel_of m = kinds.Cancel (record {
+  account = m.0;
+  key = m.1.0;
+  subscription = m.1.1.0;
+  day = m.1.1.1;
+})
+
+-- the members of kind 7
+abbrev pub uncancel : Member (List ℕ × (List ℕ × List ℕ))
+uncancel = both name (both name name)
+
+-- the command of those
+abbrev pub uncancel_of : List ℕ × (List ℕ × List ℕ) → Command
+uncancel_of m = kinds.Uncancel (record { account = m.0; key = m.1.0; subscription = m.1.1 })
+
+-- the members of kind 8
+abbrev pub pause : Member (List ℕ × (List ℕ × (List ℕ × Option ℕ)))
+pause = both name (both name (both name (optional day)))
+
+-- the command of those
+abbrev pub pause_of : List ℕ × (List ℕ × (List ℕ × Option ℕ)) → Command
+pause_of m = kinds.Pause (record { account = m.0; key = m.1.0; bundle = m.1.1.0; day = m.1.1.1 })
+
+-- the members of kind 9
+abbrev pub resume : Member (List ℕ × (List ℕ × (List ℕ × Option ℕ)))
+resume = both name (both name (both name (optional day)))
+
+-- the command of those
+abbrev pub resume_of : List ℕ × (List ℕ × (List ℕ × Option ℕ)) → Command
+resume_of m = kinds.Resume (record { account = m.0; key = m.1.0; bundle = m.1.1.0; day = m.1.1.1 })
+
+-- the members of kind 10
+abbrev pub block : Member (List ℕ × (List ℕ × (BlockScope × (List ℕ × (List ℕ × (List ℕ × (Option ℕ
+    × Flags)))))))
+block = both name (both name (both scope (both name (both name (both name (both (optional day) flags))))))
+
+-- the command of those
+abbrev pub block_of : List ℕ × (List ℕ × (BlockScope × (List ℕ × (List ℕ × (List ℕ × (Option ℕ × Flags))))))
+    → Command
+block_of m = kinds.Block (record {
+  account = m.0;
+  key = m.1.0;
+  scope = m.1.1.0;
+  target = m.1.1.1.0;
+  service = m.1.1.1.1.0;
+  state = m.1.1.1.1.1.0;
+  day = m.1.1.1.1.1.1.0;
+  flags = m.1.1.1.1.1.1.1;
+})
+
+-- the members of kind 11
+abbrev pub bill : Member (List ℕ × (List ℕ × Option ℕ))
+bill = both name (both name (optional day))
+
+-- the command of those
+abbrev pub bill_of : List ℕ × (List ℕ × Option ℕ) → Command
+bill_of m = kinds.Bill (record { account = m.0; key = m.1.0; day = m.1.1 })
+
+-- the members of kind 12
+abbrev pub charge : Member (List ℕ × (List ℕ × ℕ))
+charge = both name (both name amount)
+
+-- the command of those
+abbrev pub charge_of : List ℕ × (List ℕ × ℕ) → Command
+charge_of m = kinds.Charge (record { account = m.0; key = m.1.0; amount = m.1.1 })
+
+-- the members of kind 13
+abbrev pub credit : Member (List ℕ × (List ℕ × ℕ))
+credit = both name (both name amount)
+
+-- the command of those
+abbrev pub credit_of : List ℕ × (List ℕ × ℕ) → Command
+credit_of m = kinds.Credit (record { account = m.0; key = m.1.0; amount = m.1.1 })
+
+-- the members of kind 14
+abbrev pub pay : Member (List ℕ × (List ℕ × (List ℕ × (ℕ × Option ℕ))))
+pay = both name (both name (both name (both invoice (optional amount))))
+
+-- the command of those
+abbrev pub pay_of : List ℕ × (List ℕ × (List ℕ × (ℕ × Option ℕ))) → Command
+pay_of m = kinds.Pay (record {
+  account = m.0;
+  key = m.1.0;
+  payment = m.1.1.0;
+  invoice = m.1.1.1.0;
+  amount = m.1.1.1.1;
+})
+
+-- the members of kind 15
+abbrev pub refund : Member (List ℕ × (List ℕ × (List ℕ × (List ℕ × ℕ))))
+refund = both name (both name (both name (both name amount)))
+
+-- the command of those
+abbrev pub refund_of : List ℕ × (List ℕ × (List ℕ × (List ℕ × ℕ))) → Command
+refund_of m = kinds.Refund (record {
+  account = m.0;
+  key = m.1.0;
+  payment = m.1.1.0;
+  of = m.1.1.1.0;
+  amount = m.1.1.1.1;
+})
+
+-- the members of kind 16
+abbrev pub chargeback : Member (List ℕ × (List ℕ × (List ℕ × (List ℕ × ℕ))))
+chargeback = both name (both name (both name (both name amount)))
+
+-- the command of those
+abbrev pub chargeback_of : List ℕ × (List ℕ × (List ℕ × (List ℕ × ℕ))) → Command
+chargeback_of m = kinds.Chargeback (record {
+  account = m.0;
+  key = m.1.0;
+  payment = m.1.1.0;
+  of = m.1.1.1.0;
+  amount = m.1.1.1.1;
+})
+
+-- the members of kind 17
+abbrev pub autopay : Member (List ℕ × (List ℕ × Bool))
+autopay = both name (both name truth)
+
+-- the command of those
+abbrev pub autopay_of : List ℕ × (List ℕ × Bool) → Command
+autopay_of m = kinds.Autopay (record { account = m.0; key = m.1.0; on = m.1.1 })
+
+-- the members of kind 18
+abbrev pub auto_pay : Member (List ℕ × ℕ)
+auto_pay = both name invoice
+
+-- the command of those
+abbrev pub auto_pay_of : List ℕ × ℕ → Command
+auto_pay_of m = kinds.Auto (record { account = m.0; invoice = m.1 })
+
+-- the members of kind 19
+abbrev pub settle : Member (List ℕ × (List ℕ × Status))
+settle = both name (both name status)
+
+-- the command of those
+abbrev pub settle_of : List ℕ × (List ℕ × Status) → Command
+settle_of m = kinds.Settle (record { account = m.0; payment = m.1.0; status = m.1.1 })
+
+-- the members of kind 20
+abbrev pub overdue_state : Member (List ℕ)
+overdue_state = name
+
+-- the command of those
+abbrev pub overdue_state_of : List ℕ → Command
+overdue_state_of m = kinds.Overdue (record { account = m })
+
+-- how the members of each kind are read, from kind 0, which there isn't
+abbrev pub readers : List (Reader Command)
+readers = (λ bytes. None) ∷ into catalog_text_of catalog_text.read ∷ into overdue_rules_of
+    overdue_rules.read ∷ into open_account_of open_account.read ∷ into create_of create.read ∷ into
+    change_of change.read ∷ into cancel_of cancel.read ∷ into uncancel_of uncancel.read ∷ into pause_of
+    pause.read ∷ into resume_of resume.read ∷ into block_of block.read ∷ into bill_of bill.read ∷ into
+    charge_of charge.read ∷ into credit_of credit.read ∷ into pay_of pay.read ∷ into refund_of refund.read
+    ∷ into chargeback_of chargeback.read ∷ into autopay_of autopay.read ∷ into auto_pay_of auto_pay.read ∷
+    into settle_of settle.read ∷ into overdue_state_of overdue_state.read ∷ []
+
+-- a command, from its kind on
+unfoldable pub command_in : Reader Command
+command_in bytes = chained reading.byte_in
+    (λ kind rest. option_and_then (λ read. read rest) (slice_get readers kind)) bytes
+
+-- what was read, if nothing is left
+abbrev pub ended : Option Command → List ℕ → Option Command
+ended found rest = if length rest == 0 then found else None
+
+-- the command that all of some bytes are
+unfoldable pub whole : List ℕ → Option Command
+whole bytes = option_and_then (λ x. ended (Some x.0) x.1) (command_in bytes)

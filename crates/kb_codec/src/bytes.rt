@@ -1,0 +1,105 @@
+//! Commands as bytes, and back.
+ghost use Rattle.std.specs.Prelude.{◌≡◌, ◌≤◌, IfOk, IfSome, Some, None};
+ghost use Rattle.std.specs.Option.{option_and_then};
+ghost use Rattle.std.specs.Prelude.{slice_get};
+ghost use Rattle.kb_codec.specs.Commands.{spelling, IsCommand};
+ghost use Rattle.kb_codec.specs.declared.command.Command.{Command as AnyCommand};
+ghost use Rattle.kb_codec.specs.Private.Reading.{Reads};
+ghost use Rattle.kb_codec.specs.Private.Parts.{readers, command_in, ended, whole};
+
+use crate::Command;
+use crate::reading::{
+    read_auto_pay, read_autopay, read_bill, read_block, read_cancel, read_change, read_charge,
+    read_chargeback, read_create, read_credit, read_open_account, read_overdue_state, read_pause,
+    read_pay, read_refund, read_resume, read_settle, read_uncancel,
+};
+use crate::rest::Rest;
+use crate::texts::{read_catalog_text, read_overdue_rules};
+use crate::writing::put_command;
+use kb_base::NoMemory;
+use std::alloc::Global;
+
+/// Room for the bytes of any command without a text.
+const ROOM: usize = 400;
+
+/// The one spelling of a command. An `Err` comes only if memory runs out.
+pub fn encode(alloc: Global, command: &Command) -> Result<Vec<u8>, NoMemory>
+    ensures { IfOk result (λ bytes. bytes.items ≡ spelling command.now) }
+{
+    let mut bytes = Vec::with_capacity(alloc, ROOM)?;
+    put_command(&mut bytes, command)?;
+    Ok(bytes)
+}
+
+/// The command of which all of these bytes are the spelling; none if they are no command's. Memory is taken
+/// for a text alone.
+pub fn decode(alloc: Global, bytes: &[u8]) -> Result<Option<Command>, NoMemory>
+    ensures spelled { IfOk result (λ found. IfSome found (λ command. spelling command ≡ bytes.now)) }
+    ensures sound { IfOk result (λ found. IfSome found IsCommand) }
+    ensures all { IfOk result (λ found. (command : AnyCommand) → IsCommand command
+        → spelling command ≡ bytes.now → found ≡ Some command) }
+{
+    read_whole(alloc, bytes)
+}
+
+/// The command that all of these bytes are.
+#[tactic(auto, unfolding(crate::specs::Private::Parts::whole))]
+fn read_whole(alloc: Global, bytes: &[u8]) -> Result<Option<Command>, NoMemory>
+    ensures { IfOk result (λ found. found ≡ whole bytes.now) }
+{
+    let mut rest = Rest::new(bytes);
+    let found = read_command(alloc, &mut rest)?;
+    Ok(ended(found, &rest))
+}
+
+/// What was read, if nothing is left.
+fn ended(found: Option<Command>, rest: &Rest<'_>) -> Option<Command>
+    ensures { result ≡ ended found rest.now }
+{
+    if rest.is_empty() { found } else { None }
+}
+
+/// A command, from its kind on.
+#[tactic(auto, unfolding(crate::specs::Private::Parts::command_in))]
+fn read_command(alloc: Global, rest: &mut Rest<'_>) -> Result<Option<Command>, NoMemory>
+    ensures { IfOk result (λ found. Reads command_in rest.old found rest.new) }
+{
+    let Some(kind) = rest.byte() else {
+        return Ok(None);
+    };
+    match kind {
+        0 => Ok(None),
+        1 => read_catalog_text(alloc, rest),
+        2 => read_overdue_rules(alloc, rest),
+        _ => Ok(read_plain(kind, rest)),
+    }
+}
+
+/// The members of a command of a kind without a text.
+fn read_plain(kind: u8, rest: &mut Rest<'_>) -> Option<Command>
+    requires { 3 ≤ kind }
+    ensures { Reads (λ bytes. option_and_then (λ read. read bytes) (slice_get readers kind)) rest.old result
+        rest.new }
+{
+    match kind {
+        3 => read_open_account(rest),
+        4 => read_create(rest),
+        5 => read_change(rest),
+        6 => read_cancel(rest),
+        7 => read_uncancel(rest),
+        8 => read_pause(rest),
+        9 => read_resume(rest),
+        10 => read_block(rest),
+        11 => read_bill(rest),
+        12 => read_charge(rest),
+        13 => read_credit(rest),
+        14 => read_pay(rest),
+        15 => read_refund(rest),
+        16 => read_chargeback(rest),
+        17 => read_autopay(rest),
+        18 => read_auto_pay(rest),
+        19 => read_settle(rest),
+        20 => read_overdue_state(rest),
+        _ => None,
+    }
+}
