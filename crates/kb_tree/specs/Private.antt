@@ -1,0 +1,5 @@
+-- What only private contracts and proofs cite.
+pub mod LeftCharges
+pub mod Rests
+pub mod Walks
+pub mod AfterCovers
