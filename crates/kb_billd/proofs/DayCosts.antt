@@ -3,16 +3,16 @@ use Rattle.std.proofs.Common.{◌≡◌, ◌⊎◌, ℕ, ◌+◌, ◌-◌, ◌<�
 use Rattle.kb_base.proofs.Summed.{sum_by-range-more, sum_by-range-window}
 use Rattle.kb_money.specs.Proration.{cost}
 use Rattle.kb_money.proofs.Shares.{cost-days}
-use Rattle.kb_due.specs.declared.first.FirstCell.{FirstCell}
+use Rattle.kb_due.specs.declared.cell.Cell.{Cell}
 use Rattle.kb_billd.specs.declared.first.dates.Dates.{Dates}
-use Rattle.kb_billd.specs.FirstItems.{day_cost, days_cost, due_cost, charged}
+use Rattle.kb_tree.specs.Amounts.{day_cost, days_cost, due_cost, charged}
 use Rattle.kb_billd.specs.FirstBook.{due, unpaid}
 use Rattle.kb_billd.specs.Private.FirstWindow.{IsOutside}
 use Rattle.kb_days.specs.Calendar.{first_day, charged_days}
 use Rattle.kb_billd.proofs.Windows.{due-outside}
 
 -- days of a cell cost what their offsets cost
-pub cost-cell : (cell : FirstCell) (from to : ℕ) → cell.start ≤ from → from ≤ to
+pub cost-cell : (cell : Cell) (from to : ℕ) → cell.start ≤ from → from ≤ to
     → cost cell.price (cell.end - cell.start) (from - cell.start) (to - cell.start) ≡ days_cost cell from to
 unfolding days_cost
 cost-cell cell from to begins order =
@@ -23,19 +23,19 @@ cost-cell cell from to begins order =
 pub ruleset days_costs = (cost-cell)
 
 -- a day costs what the days from it up to the next one cost
-pub days_cost-day : (cell : FirstCell) (day : ℕ) → days_cost cell day (day + 1) ≡ day_cost cell day
+pub days_cost-day : (cell : Cell) (day : ℕ) → days_cost cell day (day + 1) ≡ day_cost cell day
 unfolding days_cost
 days_cost-day cell day = let one : day + 1 - day ≡ 1 = omega arith in rw one (omega arith)
 
 pub ruleset day_costs = (days_cost-day)
 
 -- the sum of what days cost goes on by one day
-pub charged-more : (due : ℕ → Option FirstCell) (day count : ℕ)
+pub charged-more : (due : ℕ → Option Cell) (day count : ℕ)
     → charged due day (count + 1) ≡ charged due day count + due_cost (due (day + count)) (day + count)
 unfolding charged
 charged-more due day count = sum_by-range-more (λ d. due_cost (due d) d) day count
 
-pub charged-none : (due : ℕ → Option FirstCell) (day : ℕ) → charged due day 0 ≡ 0
+pub charged-none : (due : ℕ → Option Cell) (day : ℕ) → charged due day 0 ≡ 0
 unfolding charged
 charged-none due day = refl
 
@@ -50,7 +50,7 @@ unpaid-window dates first count begins ends outside =
     (λ d low high out. ap (λ cell. due_cost cell d) (due-outside dates d (outside d out))))
 
 -- one day more is added up
-pub charged-step : (due : ℕ → Option FirstCell) (first count at sum cost : ℕ) → at ≡ first + count
+pub charged-step : (due : ℕ → Option Cell) (first count at sum cost : ℕ) → at ≡ first + count
     → sum ≡ charged due first count
     → cost ≡ due_cost (due at) at → sum + cost ≡ charged due first (count + 1)
 charged-step due first count at sum cost here so_far is =

@@ -1,21 +1,24 @@
 -- The first machine: one account, and at most one subscription on one plan of 1000 minor units a month.
 use Rattle.std.specs.Prelude.{ℕ, ◌≡◌, max, Bool, true, false, ◌||◌, nat_lt, is_some, List, [], ◌∷◌, ◌++◌}
-use Rattle.std.specs.Prelude.{codes, Option, Some, None, ℤ, pos, neg_ℤ, decimal, refl}
+use Rattle.std.specs.Prelude.{codes, Option, Some, None, option_map, ℤ, pos, neg_ℤ, decimal, refl}
 use Rattle.std.specs.Fmt.{signed_decimal, digits}
 use Rattle.kb_days.specs.Calendar.{first_day, charged_days, month_of, month_after, month_start, month_length}
 use Rattle.kb_days.specs.Dates.{march, april}
+use Rattle.kb_due.specs.declared.cell.Cell.{Cell}
 use Rattle.kb_due.specs.declared.first.FirstCell.{FirstCell}
 use Rattle.kb_due.specs.FirstDue.{first_due}
-use Rattle.kb_billd.specs.declared.first.item.FirstItem.{FirstItem}
+use Rattle.kb_tree.specs.declared.item.NewItem.{NewItem}
+use Rattle.kb_tree.specs.Items.{charges_on, numbered, march_cell}
+use Rattle.kb_tree.specs.Repairs.{new_items}
+use Rattle.kb_tree.specs.Amounts.{charged}
 use Rattle.kb_billd.specs.declared.first.command.FirstCommand.{FirstCommand}
 use Rattle.kb_billd.specs.declared.first.command.FirstCommand.TheVariants.{Create, Cancel, Bill}
 use Rattle.kb_billd.specs.declared.first.dates.Dates.{Dates}
-use Rattle.kb_billd.specs.FirstItems.{new_items, total, charged}
 
--- a book: the dates that decide what is due, and the items issued so far
+-- a book: the dates that decide what is due, and the items issued so far, which are numbered from 1
 pub record Book : Type 0 where
   pub dates : Dates
-  pub items : List FirstItem
+  pub items : List NewItem
 
 abbrev pub empty_book : Book
 empty_book = record { dates = record { start = None; cancel = None; billed = None }; items = [] }
@@ -28,20 +31,33 @@ started = record { start = Some (march 10); cancel = None; billed = Some (march 
 abbrev cancelled : Dates
 cancelled = record { start = Some (march 10); cancel = Some (march 20); billed = Some (march 25) }
 
+-- a cell of the one plan there is: phase 0 of plan 0 in price list 0 of version 0
+abbrev pub plan_cell : FirstCell → Cell
+plan_cell cell = record {
+  plan = record { version = 0; list = 0; plan = 0 };
+  phase = 0;
+  start = cell.start;
+  end = cell.end;
+  price = cell.price;
+}
+
+cell_of_march : plan_cell (record { start = march 1; end = april 1; price = 1000 }) ≡ march_cell
+cell_of_march = refl
+
 -- the due cell of a day, where there are a start and a billed date
-abbrev pub due_from : Option ℕ → Option ℕ → Option ℕ → ℕ → Option FirstCell
+abbrev pub due_from : Option ℕ → Option ℕ → Option ℕ → ℕ → Option Cell
 due_from None cancel billed day = None
 due_from (Some start) cancel None day = None
-due_from (Some start) cancel (Some billed) day = first_due start cancel billed day
+due_from (Some start) cancel (Some billed) day = option_map plan_cell (first_due start cancel billed day)
 
 -- the due cell of a day
-abbrev pub due : Dates → ℕ → Option FirstCell
+abbrev pub due : Dates → ℕ → Option Cell
 due dates day = due_from dates.start dates.cancel dates.billed day
 
 nothing_due_at_first : due empty_book.dates (march 10) ≡ None
 nothing_due_at_first = refl
 
-due_on_the_19th : due cancelled (march 19) ≡ Some (record { start = march 1; end = april 1; price = 1000 })
+due_on_the_19th : due cancelled (march 19) ≡ Some march_cell
 unfolding first_due month_of month_after month_start month_length
 due_on_the_19th = refl
 
@@ -113,8 +129,9 @@ billed_without_a_start : refuses empty_book.dates (Bill (march 1) (march 1)) ≡
 billed_without_a_start = refl
 
 -- the items that an accepted command issues
-abbrev pub issued : Book → FirstCommand → List FirstItem
-issued book command = new_items book.items (due (edited book.dates command)) first_day charged_days
+abbrev pub issued : Book → FirstCommand → List NewItem
+issued book command =
+    new_items (charges_on (numbered 1 book.items)) (due (edited book.dates command)) first_day charged_days
 
 -- the book after an accepted command
 abbrev pub performed : Book → FirstCommand → Book

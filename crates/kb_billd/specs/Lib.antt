@@ -1,6 +1,5 @@
 pub mod FirstBook
 pub mod FirstCommand
-pub mod FirstItems
 pub mod FirstStep
 pub mod Private
 pub mod Reading

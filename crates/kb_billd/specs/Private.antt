@@ -1,5 +1,5 @@
 -- What only private contracts and proofs cite.
 pub mod Closing
-pub mod FirstItems
+pub mod FirstCharges
 pub mod FirstWindow
 pub mod Stopping

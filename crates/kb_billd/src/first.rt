@@ -4,10 +4,10 @@
 mod answer;
 mod apply;
 mod book;
+mod cell;
 mod charges;
 mod command;
 mod dates;
-mod item;
 mod new_items;
 mod price;
 mod runs;
@@ -17,4 +17,3 @@ pub use apply::apply_first;
 pub use book::FirstBook;
 pub use command::FirstCommand;
 pub use dates::Dates;
-pub use item::FirstItem;

@@ -12,7 +12,7 @@ mod stop;
 mod top;
 
 pub use adapter::{StdSink, StdSource};
-pub use first::{Dates, FirstBook, FirstCommand, FirstItem, apply_first};
+pub use first::{Dates, FirstBook, FirstCommand, apply_first};
 pub use reading::{LineMachine, MAX_INPUT, MAX_LINE, run_lines};
 pub use stop::{Stop, status_of};
 pub use top::{billd, close};

@@ -1,11 +1,37 @@
 //! A book, and the lines that are answered on it.
 
-use kb_billd::{FirstBook, FirstItem, LineMachine, apply_first, run_lines};
-use kb_days::parse;
-use kb_due::FirstCell;
+use kb_billd::{FirstBook, LineMachine, apply_first, run_lines};
+use kb_days::{Reach, parse};
+use kb_due::Cell;
 use kb_money::Minor;
 use kb_ports::{BytesSink, BytesSource};
+use kb_timeline::PlanRef;
+use kb_tree::{ItemNo, NewItem};
 use std::test::Fail;
+
+/// The days of a bill, and its cell.
+fn bill_of(item: &NewItem) -> Option<(Reach, Reach, Cell)> {
+    match item {
+        NewItem::Bill { from, to, cell } => Some((*from, *to, *cell)),
+        NewItem::Repair {
+            of: _,
+            from: _,
+            to: _,
+        } => None,
+    }
+}
+
+/// The item that a repair takes off, and its days.
+fn repair_of(item: &NewItem) -> Option<(ItemNo, Reach, Reach)> {
+    match item {
+        NewItem::Bill {
+            from: _,
+            to: _,
+            cell: _,
+        } => None,
+        NewItem::Repair { of, from, to } => Some((*of, *from, *to)),
+    }
+}
 
 #[test]
 fn the_book_after_a_first_run(rt: HostRuntime) -> Result<(), Fail> {
@@ -25,25 +51,25 @@ fn the_book_after_a_first_run(rt: HostRuntime) -> Result<(), Fail> {
         (book.start, book.cancel, book.billed),
         (Some(start), Some(cancel), Some(end))
     );
-    let march = FirstCell {
+    let march = Cell {
+        plan: PlanRef {
+            version: 0,
+            list: 0,
+            plan: 0,
+        },
+        phase: 0,
         start: parse(b"2024-03-01")?.reach(),
         end: end.reach(),
         price: Minor::new(1000).ok_or("a price")?,
     };
     let (from, cancel) = (start.reach(), cancel.reach());
-    let items = [
-        FirstItem::Bill {
-            from,
-            to: march.end,
-            cell: march,
-        },
-        FirstItem::Repair {
-            of: 1,
-            from: cancel,
-            to: march.end,
-        },
-    ];
-    assert_eq!(rt; book.items(), items.as_slice());
+    let [bill, repair] = book.items() else {
+        return Err("two items".into());
+    };
+    assert_eq!(rt;
+        (bill_of(bill), repair_of(repair)),
+        (Some((from, march.end, march)), Some((1, cancel, march.end)))
+    );
     assert_eq!(rt;
         (book.dates().due(from), book.dates().due(cancel)),
         (Some(march), None)

@@ -1,16 +1,18 @@
 //! How the first machine answers a line.
 ghost use Rattle.std.specs.Prelude.{◌≡◌, ◌++◌, List, ℕ, IfOk, OnOk, OnErr, false, string_bytes};
 ghost use Rattle.std.specs.Fmt.{signed_decimal};
-ghost use Rattle.kb_billd.specs.FirstItems.{total};
+ghost use Rattle.kb_tree.specs.Items.{cell_at, numbered};
+ghost use Rattle.kb_tree.specs.Amounts.{total};
 ghost use Rattle.kb_billd.specs.FirstBook.{edited, issued, ok_text, performed, refused_text, refuses, unpaid};
 ghost use Rattle.kb_billd.specs.FirstStep.{first_machine, Accepts, IsSound};
 
 use crate::first::command::read_command;
 use crate::first::new_items::new_items;
 use crate::first::price::{total, unpaid};
-use crate::first::{FirstBook, FirstCommand, FirstItem};
+use crate::first::{FirstBook, FirstCommand};
 use crate::reading::LineMachine;
 use kb_ports::NoMemory;
+use kb_tree::NewItem;
 use std::alloc::Global;
 
 impl LineMachine for FirstBook {
@@ -66,11 +68,7 @@ fn perform(
 }
 
 /// The items that an accepted command issues.
-fn issue(
-    alloc: Global,
-    book: &FirstBook,
-    command: &FirstCommand,
-) -> Result<Vec<FirstItem>, NoMemory>
+fn issue(alloc: Global, book: &FirstBook, command: &FirstCommand) -> Result<Vec<NewItem>, NoMemory>
     requires accepted { refuses book.now.dates command.now ≡ false }
     ensures { IfOk result (λ added. added.items ≡ issued book.now command.now) }
 {
@@ -82,12 +80,13 @@ fn answer_text(
     alloc: Global,
     book: &FirstBook,
     command: &FirstCommand,
-    added: &[FirstItem],
+    added: &[NewItem],
 ) -> Result<String, NoMemory>
     requires sound { IsSound book.now }
     requires issued { added.now ≡ issued book.now command.now }
     ensures { IfOk result (λ text. string_bytes text
-        ≡ ok_text (total book.now.items added.now) (unpaid (edited book.now.dates command.now))) }
+        ≡ ok_text (total (cell_at (numbered 1 book.now.items)) added.now)
+        (unpaid (edited book.now.dates command.now))) }
 {
     let sum = total(book.items(), added);
     ok_text(alloc, sum, unpaid(&book.dates().edited(command)))
@@ -98,7 +97,7 @@ fn with_items(
     alloc: Global,
     book: &FirstBook,
     command: &FirstCommand,
-    added: &[FirstItem],
+    added: &[NewItem],
 ) -> Result<FirstBook, NoMemory>
     requires issued { added.now ≡ issued book.now command.now }
     ensures { IfOk result (λ next. next ≡ performed book.now command.now) }
@@ -114,11 +113,7 @@ fn with_items(
 }
 
 /// Some items, followed by others.
-fn joined(
-    alloc: Global,
-    items: &[FirstItem],
-    added: &[FirstItem],
-) -> Result<Vec<FirstItem>, NoMemory>
+fn joined(alloc: Global, items: &[NewItem], added: &[NewItem]) -> Result<Vec<NewItem>, NoMemory>
     ensures { IfOk result (λ joined. joined.items ≡ items.now ++ added.now) }
 {
     let mut joined = items.to_vec(alloc)?;

@@ -2,13 +2,14 @@
 ghost use Rattle.std.specs.Prelude.{◌≡◌};
 ghost use Rattle.kb_billd.specs.FirstBook.{empty_book};
 
-use crate::first::{Dates, FirstItem};
+use crate::first::Dates;
 use kb_days::Day;
+use kb_tree::NewItem;
 use std::alloc::Global;
 use std::marker::Model;
 
 /// The book of the one account. Each of its days always has exactly the charge that is due, or none.
-#[derive(Debug, Drop)]
+#[derive(Drop)]
 pub struct FirstBook {
     /// When the subscription starts.
     pub start: Option<Day>,
@@ -17,7 +18,7 @@ pub struct FirstBook {
     /// Up to which date is billed.
     pub billed: Option<Day>,
     /// The items issued so far; they are numbered from 1.
-    pub items: Vec<FirstItem>,
+    pub items: Vec<NewItem>,
 }
 
 impl Model for FirstBook {
@@ -54,7 +55,7 @@ impl FirstBook {
     }
 
     /// The items issued so far, by number from 1.
-    pub fn items(&self) -> &[FirstItem]
+    pub fn items(&self) -> &[NewItem]
         ensures { result.now ≡ self.now.items }
     {
         &self.items

@@ -1,17 +1,17 @@
 //! What is charged on a day: the bills that cover it, without those that a repair takes off it.
 ghost use Rattle.std.specs.Prelude.{◌≡◌, ◌+◌, ◌<◌, ◌≤◌, ◌^◌, length, option_map, option_to_list};
-ghost use Rattle.std.specs.List.{list_any};
-ghost use Rattle.kb_billd.specs.FirstItems.{covers, repairs, charge_of, is_due, same_cell};
-ghost use Rattle.kb_billd.specs.FirstItems.{wrong_on, without_charge, charges_on};
-ghost use Rattle.kb_billd.specs.Private.FirstItems.{option_charge};
+ghost use Rattle.kb_tree.specs.Items.{covers, repairs, is_repaired, charge_of, charges_on, numbered};
+ghost use Rattle.kb_tree.specs.Repairs.{is_due, wrong_among, missing_among};
+ghost use Rattle.kb_due.specs.CellStretches.{same_cell};
+ghost use Rattle.kb_billd.specs.Private.FirstCharges.{option_charge};
 
-use crate::first::FirstItem;
 use kb_days::Reach;
-use kb_due::FirstCell;
+use kb_due::Cell;
+use kb_tree::{ItemNo, NewItem};
 
 /// The number of the charge of a day that isn't by the due cell.
-pub fn wrong_on(items: &[FirstItem], due: &Option<FirstCell>, day: Reach) -> Option<u64>
-    ensures { result ≡ wrong_on items.now (λ _. due.now) day }
+pub fn wrong_on(items: &[NewItem], due: &Option<Cell>, day: Reach) -> Option<ItemNo>
+    ensures { result ≡ wrong_among (charges_on (numbered 1 items.now) day) due.now }
 {
     for (index, item) in items.iter().enumerate() {
         let number = index as u64 + 1;
@@ -25,8 +25,8 @@ pub fn wrong_on(items: &[FirstItem], due: &Option<FirstCell>, day: Reach) -> Opt
 }
 
 /// The due cell of a day, if no charge of the day is by it.
-pub fn missing_on(items: &[FirstItem], due: &Option<FirstCell>, day: Reach) -> Option<FirstCell>
-    ensures { result ≡ without_charge (charges_on items.now day) due.now }
+pub fn missing_on(items: &[NewItem], due: &Option<Cell>, day: Reach) -> Option<Cell>
+    ensures { result ≡ missing_among (charges_on (numbered 1 items.now) day) due.now }
 {
     for (index, item) in items.iter().enumerate() {
         if let Some(cell) = charge_of(items, item, index as u64 + 1, day) {
@@ -39,18 +39,18 @@ pub fn missing_on(items: &[FirstItem], due: &Option<FirstCell>, day: Reach) -> O
 }
 
 /// The cell by which the item of this number charges a day, unless an item repairs it there.
-fn charge_of(items: &[FirstItem], item: &FirstItem, number: u64, day: Reach) -> Option<FirstCell>
-    ensures { charge_of items.now day number item.now ≡ option_charge number result }
+fn charge_of(items: &[NewItem], item: &NewItem, number: ItemNo, day: Reach) -> Option<Cell>
+    ensures { charge_of (numbered 1 items.now) day number item.now ≡ option_charge number result }
 {
     match item {
-        FirstItem::Bill { from, to, cell } => {
+        NewItem::Bill { from, to, cell } => {
             if covers(*from, *to, day) && !is_repaired(items, number, day) {
                 Some(*cell)
             } else {
                 None
             }
         }
-        FirstItem::Repair {
+        NewItem::Repair {
             of: _,
             from: _,
             to: _,
@@ -59,8 +59,8 @@ fn charge_of(items: &[FirstItem], item: &FirstItem, number: u64, day: Reach) -> 
 }
 
 /// Whether some item repairs the item of this number on a day.
-fn is_repaired(items: &[FirstItem], number: u64, day: Reach) -> bool
-    ensures { result ≡ list_any (repairs number day) items.now }
+fn is_repaired(items: &[NewItem], number: ItemNo, day: Reach) -> bool
+    ensures { result ≡ is_repaired (numbered 1 items.now) number day }
 {
     for item in items {
         if repairs(item, number, day) {
@@ -71,16 +71,16 @@ fn is_repaired(items: &[FirstItem], number: u64, day: Reach) -> bool
 }
 
 /// Whether an item repairs the item of this number on a day.
-fn repairs(item: &FirstItem, number: u64, day: Reach) -> bool
+fn repairs(item: &NewItem, number: ItemNo, day: Reach) -> bool
     ensures { result ≡ repairs number day item.now }
 {
     match item {
-        FirstItem::Bill {
+        NewItem::Bill {
             from: _,
             to: _,
             cell: _,
         } => false,
-        FirstItem::Repair { of, from, to } => *of == number && covers(*from, *to, day),
+        NewItem::Repair { of, from, to } => *of == number && covers(*from, *to, day),
     }
 }
 
@@ -92,7 +92,7 @@ fn covers(from: Reach, to: Reach, day: Reach) -> bool
 }
 
 /// Whether a cell is the one that is due.
-fn is_due(due: &Option<FirstCell>, cell: &FirstCell) -> bool
+fn is_due(due: &Option<Cell>, cell: &Cell) -> bool
     ensures { result ≡ is_due due.now cell.now }
 {
     match due {

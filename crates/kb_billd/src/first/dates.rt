@@ -1,11 +1,12 @@
 //! The dates that decide what is due.
-ghost use Rattle.std.specs.Prelude.{◌≡◌, IfSome};
-ghost use Rattle.kb_billd.specs.FirstItems.{IsDayOf};
+ghost use Rattle.std.specs.Prelude.{◌≡◌, ◌+◌, IfSome};
+ghost use Rattle.kb_due.specs.CellStretches.{IsInCell};
 ghost use Rattle.kb_billd.specs.FirstBook.{due, edited, refuses, moved_to};
 
 use crate::first::FirstCommand;
+use crate::first::cell::plan_cell;
 use kb_days::{Day, Reach};
-use kb_due::{FirstCell, first_due};
+use kb_due::{Cell, first_due};
 
 /// When the subscription starts and is cancelled, and up to which date is billed; each is none at first.
 #[derive(Clone, Copy, Debug, PartialEq, Eq)]
@@ -55,13 +56,16 @@ impl Dates {
     }
 
     /// The due cell of a day, which has the day.
-    #[tactic(auto, using(crate::proofs::DueCells::due_cells))]
-    pub fn due(&self, day: Reach) -> Option<FirstCell>
+    pub fn due(&self, day: Reach) -> Option<Cell>
         ensures value { result ≡ due self.now day }
-        ensures in_cell { IfSome result (λ cell. IsDayOf cell day) }
+        ensures in_cell { IfSome result
+            (λ cell. IsInCell (record { from = day; to = day + 1; value = cell })) }
     {
         match (self.start, self.billed) {
-            (Some(start), Some(billed)) => first_due(start, self.cancel, billed, day),
+            (Some(start), Some(billed)) => {
+                let cell = first_due(start, self.cancel, billed, day)?;
+                Some(plan_cell(&cell))
+            }
             _ => None,
         }
     }

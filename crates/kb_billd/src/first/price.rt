@@ -1,22 +1,23 @@
 //! What items and days cost.
-ghost use Rattle.std.specs.Prelude.{◌≡◌, ◌+◌, ◌^◌, ◌≤◌, ◌≤ℤ◌, ◌+ℤ◌, pos, neg_ℤ, All};
+ghost use Rattle.std.specs.Prelude.{◌≡◌, ◌+◌, ◌^◌, ◌<◌, ◌≤◌, ◌≤ℤ◌, ◌+ℤ◌, pos, neg_ℤ, All};
 ghost use Rattle.kb_days.specs.Calendar.{last_reach};
-ghost use Rattle.kb_billd.specs.FirstItems.{AreDaysOf, amount, cell_at, days_cost};
-ghost use Rattle.kb_billd.specs.FirstItems.{due_cost, item_cell, total};
-ghost use Rattle.kb_billd.specs.Private.FirstItems.{IsPriced};
+ghost use Rattle.kb_due.specs.CellStretches.{IsInCell};
+ghost use Rattle.kb_tree.specs.Items.{cell_at, item_cell, numbered};
+ghost use Rattle.kb_tree.specs.Amounts.{IsPriced, amount, days_cost, due_cost, total};
 ghost use Rattle.kb_billd.specs.FirstBook.{due, unpaid};
 
+use crate::first::Dates;
 use crate::first::runs::day_after;
 use crate::first::window::Window;
-use crate::first::{Dates, FirstItem};
 use kb_days::Reach;
-use kb_due::FirstCell;
+use kb_due::Cell;
 use kb_money::part;
+use kb_tree::{ItemNo, NewItem};
 
 /// What some new items amount to, in minor units.
-pub fn total(items: &[FirstItem], added: &[FirstItem]) -> i128
-    requires priced { All (IsPriced items.now) added.now }
-    ensures { result ≡ total items.now added.now }
+pub fn total(items: &[NewItem], added: &[NewItem]) -> i128
+    requires priced { All (IsPriced (cell_at (numbered 1 items.now))) added.now }
+    ensures { result ≡ total (cell_at (numbered 1 items.now)) added.now }
 {
     let mut sum = 0;
     for item in added {
@@ -63,15 +64,15 @@ fn plus(sum: i128, amount: i128) -> i128
 
 /// An item's amount: of a bill what its days cost, of a repair the negative of what they cost by the
 /// item that it repairs.
-fn amount(items: &[FirstItem], item: &FirstItem) -> i128
-    requires priced { IsPriced items.now item.now }
-    ensures value { result ≡ amount items.now item.now }
+fn amount(items: &[NewItem], item: &NewItem) -> i128
+    requires priced { IsPriced (cell_at (numbered 1 items.now)) item.now }
+    ensures value { result ≡ amount (cell_at (numbered 1 items.now)) item.now }
     ensures low { neg_ℤ (pos (10 ^ 9)) ≤ℤ result }
     ensures high { result ≤ℤ pos (10 ^ 9) }
 {
     match item {
-        FirstItem::Bill { from, to, cell } => i128::from(days_cost(cell, *from, *to)),
-        FirstItem::Repair { of, from, to } => match cell_at(items, *of) {
+        NewItem::Bill { from, to, cell } => i128::from(days_cost(cell, *from, *to)),
+        NewItem::Repair { of, from, to } => match cell_at(items, *of) {
             None => 0,
             Some(cell) => -i128::from(days_cost(&cell, *from, *to)),
         },
@@ -79,8 +80,8 @@ fn amount(items: &[FirstItem], item: &FirstItem) -> i128
 }
 
 /// The cell of the bill of this number, counted from 1.
-fn cell_at(items: &[FirstItem], number: u64) -> Option<FirstCell>
-    ensures { result ≡ cell_at items.now number }
+fn cell_at(items: &[NewItem], number: ItemNo) -> Option<Cell>
+    ensures { result ≡ cell_at (numbered 1 items.now) number }
 {
     for (index, item) in items.iter().enumerate() {
         if index as u64 + 1 == number {
@@ -91,16 +92,16 @@ fn cell_at(items: &[FirstItem], number: u64) -> Option<FirstCell>
 }
 
 /// The cell by which an item charges.
-fn item_cell(item: &FirstItem) -> Option<FirstCell>
+fn item_cell(item: &NewItem) -> Option<Cell>
     ensures { result ≡ item_cell item.now }
 {
     match item {
-        FirstItem::Bill {
+        NewItem::Bill {
             from: _,
             to: _,
             cell,
         } => Some(*cell),
-        FirstItem::Repair {
+        NewItem::Repair {
             of: _,
             from: _,
             to: _,
@@ -110,8 +111,9 @@ fn item_cell(item: &FirstItem) -> Option<FirstCell>
 
 /// What a cell costs from one day up to, but not including, another, in minor units.
 #[tactic(auto, using(crate::proofs::DayCosts::days_costs))]
-fn days_cost(cell: &FirstCell, from: Reach, to: Reach) -> u64
-    requires days { AreDaysOf cell.now from to }
+fn days_cost(cell: &Cell, from: Reach, to: Reach) -> u64
+    requires some_day { from < to }
+    requires in_cell { IsInCell (record { from = from; to = to; value = cell.now }) }
     ensures value { result ≡ days_cost cell.now from to }
     ensures bound { result ≤ 10 ^ 9 }
 {

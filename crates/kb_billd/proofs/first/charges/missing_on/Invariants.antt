@@ -1,8 +1,10 @@
 use Rattle.std.proofs.Common.{◌≡◌, ◌+◌, drop}
-use Rattle.kb_billd.specs.FirstItems.{charges_from, charges_on, without_charge}
+use Rattle.kb_tree.specs.Items.{charges_on, numbered}
+use Rattle.kb_tree.specs.Repairs.{missing_among}
+use Rattle.kb_billd.specs.Private.FirstCharges.{charges_from}
 use Rattle.kb_billd.proofs.first.charges.missing_on.Given as goal
 
 abbrev pub invariant-loop-index : goal.invariant-loop-index
 invariant-loop-index l =
-    without_charge (charges_from l.items l.day (l.index + 1) (drop l.index l.items)) l.due
-    ≡ without_charge (charges_on l.items l.day) l.due
+    missing_among (charges_from (numbered 1 l.items) l.day (l.index + 1) (drop l.index l.items)) l.due
+    ≡ missing_among (charges_on (numbered 1 l.items) l.day) l.due

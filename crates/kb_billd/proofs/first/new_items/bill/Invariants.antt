@@ -1,5 +1,5 @@
 use Rattle.std.proofs.Common.{◌≡◌, ◌++◌, map, take}
-use Rattle.kb_billd.specs.FirstItems.{bill_of}
+use Rattle.kb_tree.specs.Repairs.{bill_of}
 use Rattle.kb_billd.proofs.first.new_items.bill.Given as goal
 
 abbrev pub invariant-loop-run : goal.invariant-loop-run

@@ -1,5 +1,5 @@
 use Rattle.std.proofs.Common.{◌≡◌, ◌*◌, ◌^◌, ◌≤◌}
-use Rattle.kb_billd.specs.FirstItems.{charged}
+use Rattle.kb_tree.specs.Amounts.{charged}
 use Rattle.kb_billd.specs.FirstBook.{due}
 use Rattle.kb_billd.proofs.first.price.unpaid.Given as goal
 
