@@ -1,0 +1,10 @@
+pub mod Worlds
+pub mod Books
+pub mod Dues
+pub mod BookItems
+pub mod AskedPlans
+pub mod Inner
+pub mod Refusals
+pub mod Edits
+pub mod Steps
+pub mod SmallBooks

@@ -1,0 +1,177 @@
+-- What a command makes of an account: its refusal, or its answer and the new book.
+use Rattle.std.specs.Prelude.{ℕ, ◌+◌, Bool, false, nat_le, List, [], ◌∷◌, ◌++◌, length, bytes_eq, Option}
+use Rattle.std.specs.Prelude.{Some, None}
+use Rattle.std.specs.Prelude.{Result, Ok, Err, pos, neg_ℤ, if◌then◌else◌}
+use Rattle.std.specs.FinMap.{find, put}
+use Rattle.kb_sharing.specs.Keys.{by_words}
+use Rattle.kb_days.specs.Calendar.{first_day, charged_days}
+use Rattle.kb_sharing.specs.Sums.{sum_of}
+use Rattle.kb_credit.specs.declared.line.Line.{Line}
+use Rattle.kb_credit.specs.declared.line.Line.TheVariants as lines
+use Rattle.kb_credit.specs.declared.row.Row.{Row}
+use Rattle.kb_credit.specs.Items.{amount_of}
+use Rattle.kb_credit.specs.InvoiceRows.{InvoicesValue, credit, unpaid}
+use Rattle.kb_credit.specs.InvoiceEdits.{issued, levelled}
+use Rattle.kb_payment.specs.PaymentSums.{PaymentsValue, paid_on}
+use Rattle.kb_codec.specs.declared.command.Command.{Command}
+use Rattle.kb_codec.specs.declared.command.Command.TheVariants as kinds
+use Rattle.kb_codec.specs.Commands.{spelling}
+use Rattle.kb_book.specs.declared.answer.Answer.{Answer}
+use Rattle.kb_book.specs.declared.refusal.Refusal.{Refusal}
+use Rattle.kb_book.specs.declared.refusal.Refusal.TheVariants as refusal
+use Rattle.kb_book.specs.Worlds.{WorldValue}
+use Rattle.kb_book.specs.Books.{BookValue, Kept}
+use Rattle.kb_book.specs.BookItems.{Issue, issue_over}
+use Rattle.kb_book.specs.Edits.{begun}
+use Rattle.kb_book.specs.Refusals.{Rows, first_refusal, own_rows, limit, max_commands}
+
+-- the request key of a command of a caller
+abbrev pub key_of : Command → Option (List ℕ)
+key_of (kinds.Catalog c) = Some c.key
+key_of (kinds.OverdueRules c) = Some c.key
+key_of (kinds.OpenAccount c) = Some c.key
+key_of (kinds.Create c) = Some c.key
+key_of (kinds.Change c) = Some c.key
+key_of (kinds.Cancel c) = Some c.key
+key_of (kinds.Uncancel c) = Some c.key
+key_of (kinds.Pause c) = Some c.key
+key_of (kinds.Resume c) = Some c.key
+key_of (kinds.Block c) = Some c.key
+key_of (kinds.Bill c) = Some c.key
+key_of (kinds.Charge c) = Some c.key
+key_of (kinds.Credit c) = Some c.key
+key_of (kinds.Pay c) = Some c.key
+key_of (kinds.Refund c) = Some c.key
+key_of (kinds.Chargeback c) = Some c.key
+key_of (kinds.Autopay c) = Some c.key
+key_of (kinds.Auto c) = None
+key_of (kinds.Settle c) = None
+key_of (kinds.Overdue c) = None
+
+-- what is kept of the key of a command, if it was used
+abbrev pub kept_of : BookValue → Option (List ℕ) → Option Kept
+kept_of book None = None
+kept_of book (Some key) = find by_words key book.kept
+
+-- an account has as many commands of callers as it may have
+abbrev pub has_all_commands : BookValue → Option (List ℕ) → Bool
+has_all_commands book None = false
+has_all_commands book (Some key) = nat_le max_commands (length book.kept)
+
+-- the line of a charge or a credit
+abbrev pub own_lines : Command → List Line
+own_lines (kinds.Catalog c) = []
+own_lines (kinds.OverdueRules c) = []
+own_lines (kinds.OpenAccount c) = []
+own_lines (kinds.Create c) = []
+own_lines (kinds.Change c) = []
+own_lines (kinds.Cancel c) = []
+own_lines (kinds.Uncancel c) = []
+own_lines (kinds.Pause c) = []
+own_lines (kinds.Resume c) = []
+own_lines (kinds.Block c) = []
+own_lines (kinds.Bill c) = []
+own_lines (kinds.Charge c) = lines.Charge (pos c.amount) ∷ []
+own_lines (kinds.Credit c) = lines.Credit (neg_ℤ (pos c.amount)) ∷ []
+own_lines (kinds.Pay c) = []
+own_lines (kinds.Refund c) = []
+own_lines (kinds.Chargeback c) = []
+own_lines (kinds.Autopay c) = []
+own_lines (kinds.Auto c) = []
+own_lines (kinds.Settle c) = []
+own_lines (kinds.Overdue c) = []
+
+-- an invoice of today with these lines, if there are any
+abbrev pub with_invoice : InvoicesValue → ℕ → List Line → InvoicesValue
+with_invoice invoices today [] = invoices
+with_invoice invoices today (line ∷ later) = issued invoices today (line ∷ later)
+
+-- the number of that invoice, if there is one
+abbrev pub number_of : InvoicesValue → List Line → Option ℕ
+number_of invoices [] = None
+number_of invoices (line ∷ later) = Some (length invoices.rows + 1)
+
+-- rows that are numbered from one on, with what is paid on them
+abbrev pub paid_from : PaymentsValue → ℕ → List Row → List Row
+paid_from payments number [] = []
+paid_from payments number (row ∷ rows) =
+    record row { paid = paid_on payments number } ∷ paid_from payments (number + 1) rows
+
+abbrev pub with_paid : PaymentsValue → InvoicesValue → InvoicesValue
+with_paid payments invoices = record invoices { rows = paid_from payments 1 invoices.rows }
+
+-- the book once its new items are issued, what is paid is noted, and its invoices are levelled
+abbrev pub billed_with : BookValue → ℕ → Issue → List Line → BookValue
+billed_with book today issue own = record book {
+  invoices = levelled (with_paid book.payments (with_invoice book.invoices today (issue.lines ++ own)));
+  cells = issue.cells;
+  commands = book.commands + 1;
+}
+
+-- what is told of that
+abbrev pub answer_with : BookValue → BookValue → List Line → Answer
+answer_with before after lines = record {
+  command = after.commands;
+  invoice = number_of before.invoices lines;
+  total = sum_of amount_of lines;
+  credit = credit after.invoices.rows;
+  unpaid = unpaid after.invoices.rows;
+}
+
+-- an answer, and the book after it
+abbrev pub Outcome : Type 0
+Outcome = Answer × BookValue
+
+-- the answer is kept under the command's key, if it has one
+abbrev pub keep : Command → Option (List ℕ) → Outcome → Outcome
+keep command None outcome = outcome
+keep command (Some key) outcome = (
+  outcome.0,
+  record outcome.1 {
+    kept = put by_words key (record { spelling = spelling command; answer = outcome.0 }) outcome.1.kept;
+  },
+)
+
+-- what an accepted command makes of a book with its own edit
+abbrev pub billed_outcome : BookValue → ℕ → Issue → List Line → Outcome
+billed_outcome book today issue own = (
+  answer_with book (billed_with book today issue own) (issue.lines ++ own),
+  billed_with book today issue own,
+)
+
+-- the answer to an accepted command, and the new book: what is due is looked at over a number of days from
+-- one on
+abbrev pub accepted_over : WorldValue → BookValue → ℕ → Command → ℕ → ℕ → Outcome
+accepted_over world book today command day count =
+    keep command (key_of command) (of_book (begun world book today command))
+  where
+    of_book : BookValue → Outcome
+    of_book begun = billed_outcome begun today (issue_over world begun day count) (own_lines command)
+
+-- the refusals of a command whose key wasn't used, in their order
+abbrev pub rows_of : WorldValue → BookValue → ℕ → Command → Rows
+rows_of world book today command =
+    (has_all_commands book (key_of command), limit 5 max_commands) ∷ own_rows world book today command
+
+-- a new command: refused, or accepted
+abbrev pub new_step_over : WorldValue → BookValue → ℕ → Command → ℕ → ℕ → Result Outcome Refusal
+new_step_over world book today command day count =
+    of_refusal (first_refusal (rows_of world book today command))
+  where
+    of_refusal : Option Refusal → Result Outcome Refusal
+    of_refusal (Some refused) = Err refused
+    of_refusal None = Ok (accepted_over world book today command day count)
+
+-- A command whose key was used gives the kept answer and leaves the book, if it is the same command, and is
+-- refused if it is another one.
+abbrev pub step_over : WorldValue → BookValue → ℕ → Command → ℕ → ℕ → Result Outcome Refusal
+step_over world book today command day count = of_kept (kept_of book (key_of command))
+  where
+    of_kept : Option Kept → Result Outcome Refusal
+    of_kept None = new_step_over world book today command day count
+    of_kept (Some kept) =
+        if bytes_eq kept.spelling (spelling command) then Ok (kept.answer, book) else Err refusal.KeyReused
+
+-- one step of an account: what is due is looked at on all days
+unfoldable pub step : WorldValue → BookValue → ℕ → Command → Result Outcome Refusal
+step world book today command = step_over world book today command first_day charged_days
