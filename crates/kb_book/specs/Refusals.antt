@@ -214,7 +214,7 @@ block_rows book c =
 abbrev pub is_own_key : List ℕ → Bool
 is_own_key key = begins (codes "auto-") key
 
--- a fault of payments, as a refusal
+-- a fault of payments, as a refusal; no rule of payments gives the last one
 abbrev pub refusal_of : PayFault → Refusal
 refusal_of pay.KeyReused = refusal.KeyReused
 refusal_of pay.NoPayment = refusal.NoPayment
