@@ -1,0 +1,7 @@
+//! Worked rows of disks.
+#![tactic(auto)]
+
+#[cfg(test)]
+mod calls;
+#[cfg(test)]
+mod images;
