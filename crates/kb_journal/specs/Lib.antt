@@ -1,0 +1,5 @@
+pub mod Format
+pub mod Keeping
+pub mod Private
+pub mod Reading
+pub mod Unwritten

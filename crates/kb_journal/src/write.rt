@@ -1,0 +1,59 @@
+//! Writes to a disk that are on it before they return.
+ghost use Rattle.std.specs.Prelude.{◌≡◌, ◌≤◌, ◌+◌, ◌<◌, ◌^◌, ℕ, List, [], ◌∷◌, ◌++◌, IsTrue, OnOk, length};
+ghost use Rattle.kb_base.specs.Faults.{HasCause};
+ghost use Rattle.kb_disk.specs.Images.{overwritten, Torn, Only};
+ghost use Rattle.kb_disk.specs.Moments.{AtEachMoment};
+ghost use Rattle.kb_journal.specs.Format.{IsSized, IsWithOrWithout};
+ghost use Rattle.kb_journal.specs.Keeping.{Keeps};
+
+use crate::{MAX_BLOCK, fill_block};
+use kb_disk::{Disk, Failed};
+
+/// Writes bytes at a place and syncs.
+pub fn write_through<D: Disk>(disk: &mut D, at: u64, bytes: &[u8]) -> Result<(), Failed>
+    requires in_range { IsTrue (D.honest disk.old) → at ≤ length (D.seen disk.old) }
+    ensures written { IsTrue (D.honest disk.old)
+        → OnOk result (D.seen disk.new ≡ overwritten (D.seen disk.old) at bytes.now) }
+    ensures durable { IsTrue (D.honest disk.old) → OnOk result (Only (D.seen disk.new) (D.images disk.new)) }
+    ensures moments { Only (D.seen disk.old) (D.images disk.old)
+        → AtEachMoment D.moment D.left_since disk.old disk.new
+        (Torn at (length bytes.now) (D.seen disk.old)) }
+    ensures honesty { D.honest disk.new ≡ D.honest disk.old }
+    ensures cause { HasCause (D.fault_count disk.old) (D.fault_count disk.new) result }
+    ensures calm { OnOk result (D.fault_count disk.new ≡ D.fault_count disk.old) }
+    ensures rising { D.fault_count disk.old ≤ D.fault_count disk.new }
+{
+    if let Err(failed) = disk.write_at(at, bytes) {
+        return Err(failed);
+    }
+    disk.sync()
+}
+
+/// Adds a record behind the last gate, which stands at this place.
+pub fn write_record<D: Disk>(disk: &mut D, gate: u64, bytes: &[u8]) -> Result<(), Failed>
+    requires sized { IsSized bytes.now }
+    requires in_range { gate < 2 ^ 63 }
+    requires there { IsTrue (D.honest disk.old) → gate + 1 ≤ length (D.seen disk.old) }
+    ensures kept { (lanes lane : ℕ) (records : List (List ℕ))
+        → Keeps D.honest D.seen D.images disk.old lanes lane gate records
+        → OnOk result (Keeps D.honest D.seen D.images disk.new lanes lane (gate + (length bytes.now + 5))
+        (records ++ bytes.now ∷ [])) }
+    ensures moments { (lanes lane : ℕ) (records : List (List ℕ))
+        → Keeps D.honest D.seen D.images disk.old lanes lane gate records
+        → AtEachMoment D.moment D.left_since disk.old disk.new
+        (IsWithOrWithout lanes lane records bytes.now) }
+    ensures room { IsTrue (D.honest disk.old)
+        → OnOk result (gate + length bytes.now + 6 ≤ length (D.seen disk.new)) }
+    ensures honesty { D.honest disk.new ≡ D.honest disk.old }
+    ensures cause { HasCause (D.fault_count disk.old) (D.fault_count disk.new) result }
+    ensures calm { OnOk result (D.fault_count disk.new ≡ D.fault_count disk.old) }
+    ensures rising { D.fault_count disk.old ≤ D.fault_count disk.new }
+{
+    let mut block = [0; MAX_BLOCK];
+    fill_block(&mut block, bytes);
+    if let Err(failed) = write_through(disk, gate + 1, &block[..bytes.len() + 5]) {
+        return Err(failed);
+    }
+    // The gate is opened last: until then a crash leaves the records as they were.
+    write_through(disk, gate, &[1])
+}

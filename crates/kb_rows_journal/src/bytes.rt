@@ -1,0 +1,98 @@
+//! The worked journal of one record, and what its bytes tell when they are cut or changed.
+
+use kb_disk::{Disk, MemoryDisk};
+use kb_journal::{Journal, LoadFault};
+use std::alloc::Global;
+use std::test::Fail;
+
+/// A command of 14 bytes, as a record.
+fn command() -> [u8; 14] {
+    *b"\x00\x00\x4d\x5f\x07\x02a1\x02k9\x02s1"
+}
+
+/// The journal of lane 0 of 1 with that record.
+fn worked() -> [u8; 36] {
+    *b"KBJRNL01\x00\x01\x00\x00\x00\x00\x00\x00\x01\x00\x00\x00\x0e\x00\x00\x4d\x5f\x07\x02a1\x02k9\x02s1\x00"
+}
+
+/// How many records the bytes of a journal of lane 0 tell.
+pub fn count_of(alloc: Global, bytes: &[u8]) -> Result<usize, LoadFault> {
+    let Ok(disk) = MemoryDisk::new(alloc, bytes.to_vec(alloc)?, Vec::new(alloc)) else {
+        return Err(LoadFault::NoMemory);
+    };
+    match Journal::load(alloc, disk, 0) {
+        Ok((_, records)) => Ok(records.len()),
+        Err((fault, _)) => Err(fault),
+    }
+}
+
+#[test]
+fn one_record_makes_36_bytes(rt: HostRuntime) -> Result<(), Fail> {
+    let alloc = rt.alloc();
+    let disk = MemoryDisk::new(alloc, Vec::new(alloc), Vec::new(alloc))?;
+    let Ok(mut journal) = Journal::create(disk, 0, 1) else {
+        return Err("created".into());
+    };
+    assert_eq!(rt; journal.append(&command()), Ok(0));
+    let disk = journal.into_disk();
+    assert_eq!(rt; disk.bytes(), worked().as_slice());
+    let Ok((journal, records)) = Journal::load(alloc, disk, 0) else {
+        return Err("loaded".into());
+    };
+    assert_eq!(rt;
+        (journal.lanes(), journal.faults(), records.len()),
+        (1, 0, 1)
+    );
+    assert_eq!(rt;
+        records.first().ok_or("a record")?.as_slice(),
+        command().as_slice()
+    );
+    Ok(())
+}
+
+#[test]
+fn the_file_is_cut_to_each_length(rt: HostRuntime) -> Result<(), Fail> {
+    let alloc = rt.alloc();
+    let bytes = worked();
+    for len in 0..37 {
+        let told = match len {
+            0..17 => Err(LoadFault::NotAJournal(0)),
+            17..36 => Err(LoadFault::NotAJournal(16)),
+            _ => Ok(1),
+        };
+        assert_eq!(rt; count_of(alloc, &bytes[..len]), told, "{len} bytes");
+    }
+    Ok(())
+}
+
+#[test]
+fn each_byte_is_changed(rt: HostRuntime) -> Result<(), Fail> {
+    let alloc = rt.alloc();
+    for place in 0..36 {
+        for value in [0, 1, 2, 255] {
+            let mut bytes = worked();
+            bytes[place] = value;
+            assert_eq!(rt;
+                count_of(alloc, &bytes),
+                told_of(place, value),
+                "{value} at {place}"
+            );
+        }
+    }
+    Ok(())
+}
+
+/// What the worked journal tells with this value at a place.
+fn told_of(place: usize, value: u8) -> Result<usize, LoadFault> {
+    match (place, value) {
+        (0..8, _) => Err(LoadFault::NotAJournal(0)),
+        (8, 1..) | (9, 0 | 255) => Err(LoadFault::NotAJournal(8)),
+        (10 | 11, 1..) => Err(LoadFault::NotAJournal(10)),
+        (12..16, 1..) => Err(LoadFault::NotAJournal(12)),
+        (16, 0 | 2..) => Ok(0),
+        (17..20, 1..) | (20, 0 | 255) => Err(LoadFault::NotAJournal(16)),
+        // An open gate behind the record, and no byte behind it.
+        (35, 1) => Err(LoadFault::NotAJournal(35)),
+        _ => Ok(1),
+    }
+}

@@ -1,0 +1,9 @@
+//! Worked rows of journals.
+#![tactic(auto)]
+
+#[cfg(test)]
+mod bytes;
+#[cfg(test)]
+mod crashes;
+#[cfg(test)]
+mod sizes;
