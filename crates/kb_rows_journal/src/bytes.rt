@@ -1,8 +1,7 @@
 //! The worked journal of one record, and what its bytes tell when they are cut or changed.
 
-use kb_disk::{Disk, MemoryDisk};
-use kb_journal::{Journal, LoadFault};
-use std::alloc::Global;
+use crate::journals::{count_of, loaded, with_record};
+use kb_journal::LoadFault;
 use std::test::Fail;
 
 /// A command of 14 bytes, as a record.
@@ -15,34 +14,13 @@ fn worked() -> [u8; 36] {
     *b"KBJRNL01\x00\x01\x00\x00\x00\x00\x00\x00\x01\x00\x00\x00\x0e\x00\x00\x4d\x5f\x07\x02a1\x02k9\x02s1\x00"
 }
 
-/// How many records the bytes of a journal of lane 0 tell.
-pub fn count_of(alloc: Global, bytes: &[u8]) -> Result<usize, LoadFault> {
-    let Ok(disk) = MemoryDisk::new(alloc, bytes.to_vec(alloc)?, Vec::new(alloc)) else {
-        return Err(LoadFault::NoMemory);
-    };
-    match Journal::load(alloc, disk, 0) {
-        Ok((_, records)) => Ok(records.len()),
-        Err((fault, _)) => Err(fault),
-    }
-}
-
 #[test]
 fn one_record_makes_36_bytes(rt: HostRuntime) -> Result<(), Fail> {
     let alloc = rt.alloc();
-    let disk = MemoryDisk::new(alloc, Vec::new(alloc), Vec::new(alloc))?;
-    let Ok(mut journal) = Journal::create(disk, 0, 1) else {
-        return Err("created".into());
-    };
-    assert_eq!(rt; journal.append(&command()), Ok(0));
-    let disk = journal.into_disk();
-    assert_eq!(rt; disk.bytes(), worked().as_slice());
-    let Ok((journal, records)) = Journal::load(alloc, disk, 0) else {
-        return Err("loaded".into());
-    };
-    assert_eq!(rt;
-        (journal.lanes(), journal.faults(), records.len()),
-        (1, 0, 1)
-    );
+    let bytes = with_record(alloc, &command())?;
+    assert_eq!(rt; bytes.as_slice(), worked().as_slice());
+    let (records, lanes) = loaded(alloc, &bytes, 0)?;
+    assert_eq!(rt; (records.len(), lanes), (1, 1));
     assert_eq!(rt;
         records.first().ok_or("a record")?.as_slice(),
         command().as_slice()

@@ -1,9 +1,10 @@
 //! What crashes and failed calls leave of a journal.
 
-use crate::bytes::count_of;
+use crate::journals::count_of;
+use kb_base::NoMemory;
 use kb_disk::{Disk, DiskCall, MemoryDisk};
-use kb_journal::{AppendFault, Journal, LoadFault};
-use std::alloc::AllocError;
+use kb_journal::{Journal, LoadFault};
+use std::alloc::{AllocError, Global};
 use std::test::Fail;
 
 /// Makes a journal and adds three records, which takes 15 calls of the disk. How many were acknowledged, and
@@ -22,14 +23,20 @@ fn add_three(disk: MemoryDisk) -> (usize, MemoryDisk) {
     (acknowledged, journal.into_disk())
 }
 
+/// How many of three records are acknowledged if a call fails, and the bytes then.
+fn bytes_left(alloc: Global, failing: u64) -> Result<(usize, Vec<u8>), NoMemory> {
+    let disk = MemoryDisk::new(alloc, Vec::new(alloc), [failing].to_vec(alloc)?)?;
+    let (acknowledged, disk) = add_three(disk);
+    Ok((acknowledged, disk.into_bytes()))
+}
+
 #[test]
 fn each_call_fails_in_turn(rt: HostRuntime) -> Result<(), Fail> {
     let alloc = rt.alloc();
     for failing in 1..17 {
-        let disk = MemoryDisk::new(alloc, Vec::new(alloc), [failing].to_vec(alloc)?)?;
-        let (acknowledged, disk) = add_three(disk);
+        let (acknowledged, bytes) = bytes_left(alloc, failing)?;
         assert_eq!(rt;
-            (acknowledged, count_of(alloc, disk.bytes())),
+            (acknowledged, count_of(alloc, &bytes)),
             left_by(failing),
             "call {failing} fails"
         );
@@ -37,7 +44,7 @@ fn each_call_fails_in_turn(rt: HostRuntime) -> Result<(), Fail> {
     Ok(())
 }
 
-/// How many records are acknowledged if a call fails, and what the disk tells then. A failed call changes no
+/// How many records are acknowledged if a call fails, and what the bytes tell then. A failed call changes no
 /// byte, so the record whose last sync fails is there.
 fn left_by(failing: u64) -> (usize, Result<usize, LoadFault>) {
     match failing {
@@ -52,71 +59,95 @@ fn left_by(failing: u64) -> (usize, Result<usize, LoadFault>) {
     }
 }
 
-#[test]
-fn a_failed_append_stops_the_journal(rt: HostRuntime) -> Result<(), Fail> {
-    let alloc = rt.alloc();
-    let disk = MemoryDisk::new(alloc, Vec::new(alloc), [7].to_vec(alloc)?)?;
-    let Ok(mut journal) = Journal::create(disk, 0, 1) else {
-        return Err("created".into());
-    };
-    assert_eq!(rt; journal.append(&[5, 6]), Err(AppendFault::DiskFault));
-    assert_eq!(rt; journal.append(&[5, 6]), Err(AppendFault::Stopped(0)));
-    assert_eq!(rt; journal.faults(), 1);
-    Ok(())
+/// What a load answers if a call fails, how many faults the disk has then, and its bytes.
+fn failed_load(
+    alloc: Global,
+    bytes: &[u8],
+    failing: u64,
+) -> Result<(Option<LoadFault>, u64, Vec<u8>), NoMemory> {
+    let disk = MemoryDisk::new(alloc, bytes.to_vec(alloc)?, [failing].to_vec(alloc)?)?;
+    match Journal::load(alloc, disk, 0) {
+        Ok((journal, _)) => Ok((
+            None,
+            journal.faults() as u64,
+            journal.into_disk().into_bytes(),
+        )),
+        Err((fault, disk)) => Ok((Some(fault), disk.faults(), disk.into_bytes())),
+    }
 }
 
 #[test]
 fn each_call_of_a_load_fails_in_turn(rt: HostRuntime) -> Result<(), Fail> {
     let alloc = rt.alloc();
-    let disk = MemoryDisk::new(alloc, Vec::new(alloc), Vec::new(alloc))?;
-    let bytes = add_three(disk).1.into_bytes();
-    for failing in 1..4 {
-        let disk = MemoryDisk::new(alloc, bytes.to_vec(alloc)?, [failing].to_vec(alloc)?)?;
-        let Err((fault, disk)) = Journal::load(alloc, disk, 0) else {
-            return Err("failed".into());
+    let (_, bytes) = bytes_left(alloc, 0)?;
+    for failing in 1..5 {
+        let told = if failing < 4 {
+            (Some(LoadFault::DiskFault), 1)
+        } else {
+            (None, 0)
         };
+        let (fault, faults, left) = failed_load(alloc, &bytes, failing)?;
         assert_eq!(rt;
-            (fault, disk.faults()),
-            (LoadFault::DiskFault, 1),
-            "call {failing} fails"
-        );
-        assert_eq!(rt;
-            count_of(alloc, disk.bytes()),
-            Ok(3),
-            "call {failing} fails"
+            ((fault, faults), left.as_slice()),
+            (told, bytes.as_slice())
         );
     }
     Ok(())
 }
 
+/// The writes that add three records: each with its place and its bytes.
+fn writes(alloc: Global) -> Result<Vec<(usize, Vec<u8>)>, NoMemory> {
+    let disk = MemoryDisk::new(alloc, Vec::new(alloc), Vec::new(alloc))?;
+    let (_, disk) = add_three(disk);
+    let mut writes = Vec::new(alloc);
+    for note in disk.notes().ok_or(NoMemory)? {
+        if let DiskCall::Write { at, bytes } = &note.call {
+            writes.push((*at as usize, bytes.as_slice().to_vec(alloc)?))?;
+        }
+    }
+    Ok(writes)
+}
+
 #[test]
 fn a_crash_leaves_the_records_so_far(rt: HostRuntime) -> Result<(), Fail> {
     let alloc = rt.alloc();
-    let disk = MemoryDisk::new(alloc, Vec::new(alloc), Vec::new(alloc))?;
-    let (_, disk) = add_three(disk);
-    let notes = disk.notes().ok_or("all calls noted")?;
+    let writes = writes(alloc)?;
     for backwards in [false, true] {
         let mut image = Vec::new(alloc);
         let mut told = Err(LoadFault::NotAJournal(0));
-        for note in notes {
-            let DiskCall::Write { at, bytes } = &note.call else {
-                continue;
-            };
-            for turn in 0..bytes.len() {
-                assert_eq!(rt; count_of(alloc, &image), told, "{backwards} {at} {turn}");
-                let place = if backwards {
-                    bytes.len() - 1 - turn
-                } else {
-                    turn
-                };
-                let byte = bytes.as_slice()[place];
-                put(&mut image, (*at as usize).saturating_add(place), byte)?;
-            }
+        for (at, bytes) in &writes {
+            let strange = write_in_steps(alloc, &mut image, *at, bytes, backwards, told)?;
+            assert_eq!(rt; strange, 0, "{backwards} {at}");
             told = told_after(told, bytes.len());
         }
         assert_eq!(rt; count_of(alloc, &image), Ok(3));
     }
     Ok(())
+}
+
+/// Writes bytes one by one, from the first or from the last on. How often before one of them an image doesn't
+/// tell what it should.
+fn write_in_steps(
+    alloc: Global,
+    image: &mut Vec<u8>,
+    at: usize,
+    bytes: &[u8],
+    backwards: bool,
+    told: Result<usize, LoadFault>,
+) -> Result<u32, AllocError> {
+    let mut strange = 0_u32;
+    for turn in 0..bytes.len() {
+        if count_of(alloc, image) != told {
+            strange = strange.saturating_add(1);
+        }
+        let place = if backwards {
+            bytes.len() - 1 - turn
+        } else {
+            turn
+        };
+        put(image, at.saturating_add(place), bytes[place])?;
+    }
+    Ok(strange)
 }
 
 /// What the disk tells after a write of so many bytes: the first one makes the journal, and one of a single

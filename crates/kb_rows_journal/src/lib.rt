@@ -6,4 +6,6 @@ mod bytes;
 #[cfg(test)]
 mod crashes;
 #[cfg(test)]
+mod journals;
+#[cfg(test)]
 mod sizes;
