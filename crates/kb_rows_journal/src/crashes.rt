@@ -2,7 +2,7 @@
 
 use crate::journals::count_of;
 use kb_base::NoMemory;
-use kb_disk::{Disk, DiskCall, MemoryDisk};
+use kb_disk::{Disk, MemoryDisk};
 use kb_journal::{Journal, LoadFault};
 use std::alloc::{AllocError, Global};
 use std::test::Fail;
@@ -95,34 +95,33 @@ fn each_call_of_a_load_fails_in_turn(rt: HostRuntime) -> Result<(), Fail> {
     Ok(())
 }
 
-/// The writes that add three records: each with its place and its bytes.
-fn writes(alloc: Global) -> Result<Vec<(usize, Vec<u8>)>, NoMemory> {
-    let disk = MemoryDisk::new(alloc, Vec::new(alloc), Vec::new(alloc))?;
-    let (_, disk) = add_three(disk);
-    let mut writes = Vec::new(alloc);
-    for note in disk.notes().ok_or(NoMemory)? {
-        if let DiskCall::Write { at, bytes } = &note.call {
-            writes.push((*at as usize, bytes.as_slice().to_vec(alloc)?))?;
-        }
-    }
-    Ok(writes)
-}
-
 #[test]
 fn a_crash_leaves_the_records_so_far(rt: HostRuntime) -> Result<(), Fail> {
     let alloc = rt.alloc();
-    let writes = writes(alloc)?;
+    let (_, bytes) = bytes_left(alloc, 0)?;
     for backwards in [false, true] {
-        let mut image = Vec::new(alloc);
-        let mut told = Err(LoadFault::NotAJournal(0));
-        for (at, bytes) in &writes {
-            let strange = write_in_steps(alloc, &mut image, *at, bytes, backwards, told)?;
-            assert_eq!(rt; strange, 0, "{backwards} {at}");
-            told = told_after(told, bytes.len());
-        }
-        assert_eq!(rt; count_of(alloc, &image), Ok(3));
+        let (strange, image) = written_in_steps(alloc, backwards)?;
+        assert_eq!(rt; (strange, image.as_slice()), (0, bytes.as_slice()));
     }
     Ok(())
+}
+
+/// The writes that add three records, byte by byte. How often before one of them an image doesn't tell the
+/// records so far, and the last image.
+fn written_in_steps(alloc: Global, backwards: bool) -> Result<(u32, Vec<u8>), AllocError> {
+    let mut image = Vec::new(alloc);
+    let made = b"KBJRNL01\x00\x01\x00\x00\x00\x00\x00\x00\x00";
+    let none = Err(LoadFault::NotAJournal(0));
+    let mut strange = write_in_steps(alloc, &mut image, 0, made, backwards, none)?;
+    for (number, [one, two]) in [[5, 6], [0, 1], [255, 1]].into_iter().enumerate() {
+        let gate = 16 + 7 * number.min(3);
+        let block = [0, 0, 0, 2, one, two, 0];
+        let told = Ok(number);
+        let behind = write_in_steps(alloc, &mut image, gate + 1, &block, backwards, told)?;
+        let opened = write_in_steps(alloc, &mut image, gate, &[1], backwards, told)?;
+        strange = strange.saturating_add(behind).saturating_add(opened);
+    }
+    Ok((strange, image))
 }
 
 /// Writes bytes one by one, from the first or from the last on. How often before one of them an image doesn't
@@ -148,16 +147,6 @@ fn write_in_steps(
         put(image, at.saturating_add(place), bytes[place])?;
     }
     Ok(strange)
-}
-
-/// What the disk tells after a write of so many bytes: the first one makes the journal, and one of a single
-/// byte opens a gate.
-fn told_after(told: Result<usize, LoadFault>, len: usize) -> Result<usize, LoadFault> {
-    match (told, len) {
-        (Err(_), _) => Ok(0),
-        (Ok(count), 1) => Ok(count.saturating_add(1)),
-        (Ok(count), _) => Ok(count),
-    }
 }
 
 /// Puts a byte at a place; a gap before it is filled with 0.

@@ -1,9 +1,10 @@
 //! No record, one, many, and the largest.
+ghost use Rattle.kb_journal.specs.Format.{IsSized};
 
 use crate::journals::{loaded, with_record};
 use kb_base::NoMemory;
 use kb_disk::MemoryDisk;
-use kb_journal::Journal;
+use kb_journal::{Journal, LoadFault};
 use std::alloc::Global;
 use std::test::Fail;
 
@@ -21,25 +22,45 @@ fn numbered(alloc: Global, count: u32) -> Result<Vec<u8>, NoMemory> {
     Ok(journal.into_disk().into_bytes())
 }
 
+/// Whether each record is its own number.
+fn are_numbered(records: &[Vec<u8>]) -> bool {
+    let mut number = 0_u32;
+    for record in records {
+        if record.as_slice() != number.to_be_bytes().as_slice() {
+            return false;
+        }
+        number = number.wrapping_add(1);
+    }
+    true
+}
+
 #[test]
 fn records_are_read_as_they_were_added(rt: HostRuntime) -> Result<(), Fail> {
     let alloc = rt.alloc();
     for count in [0, 1, 300] {
-        let (records, lanes) = loaded(alloc, &numbered(alloc, count)?, 63)?;
-        assert_eq!(rt; (records.len(), lanes), (count as usize, 64));
-        for (number, record) in (0..count).zip(records.iter()) {
-            assert_eq!(rt; record.as_slice(), number.to_be_bytes().as_slice());
-        }
+        let bytes = numbered(alloc, count)?;
+        let (records, lanes) = loaded(alloc, &bytes, 63)?;
+        assert_eq!(rt;
+            (records.len(), lanes, are_numbered(&records)),
+            (count as usize, 64, true)
+        );
     }
     Ok(())
 }
 
+/// Whether a journal of one record is read as this record.
+fn is_read_back(alloc: Global, record: &[u8]) -> Result<bool, LoadFault>
+    requires { IsSized record.now }
+{
+    let Ok(bytes) = with_record(alloc, record) else {
+        return Err(LoadFault::NoMemory);
+    };
+    let (records, _) = loaded(alloc, &bytes, 0)?;
+    Ok(records.len() == 1 && records[0].as_slice() == record)
+}
+
 #[test]
 fn the_largest_record(rt: HostRuntime) -> Result<(), Fail> {
-    let alloc = rt.alloc();
-    let record = [7; 65_536];
-    let bytes = with_record(alloc, &record)?;
-    let (records, _) = loaded(alloc, &bytes, 0)?;
-    assert!(rt; records.len() == 1 && records[0].as_slice() == record.as_slice());
+    assert_eq!(rt; is_read_back(rt.alloc(), &[7; 65_536]), Ok(true));
     Ok(())
 }
