@@ -9,7 +9,7 @@
 //! | writing | it, some of the new record and of a gate | the records so far | staged, stopped |
 //! | staged | it, the record and a closed gate, all synced | the records so far | opening |
 //! | opening | any byte, the record and a closed gate | these, or these and the new one | at rest, stopped |
-//! | stopped | as a failed write or sync left it | these, or these and the new one | none: it is loaded again |
+//! | stopped | as a failed write or sync left it | these, or these and the new one | none: load it again |
 //!
 //! What always holds:
 //!
