@@ -1,0 +1,5 @@
+pub mod Wishes
+pub mod Prices
+pub mod Effects
+pub mod Anchors
+pub mod BundleRules
