@@ -6,8 +6,8 @@ use Rattle.kb_payment.specs.PaymentSums.{PaymentsValue}
 use Rattle.kb_payment.specs.PaymentEdits.{no_payments}
 use Rattle.kb_credit.specs.InvoiceRows.{InvoicesValue}
 use Rattle.kb_credit.specs.InvoiceEdits.{no_invoices}
-use Rattle.kb_due.specs.declared.cell.Cell.{Cell}
 use Rattle.kb_book.specs.declared.answer.Answer.{Answer}
+use Rattle.kb_book.specs.Issues.{SubscriptionItems}
 
 -- what is kept of an accepted command for good: its spelling, and its answer
 pub record Kept : Type 0 where
@@ -18,14 +18,9 @@ pub record Kept : Type 0 where
 abbrev pub Keyed : Type 0 → Type 0
 Keyed V = List (List ℕ × V)
 
--- the cells of a subscription's bills, by the numbers of their items: of its fees, and of its recurring
--- charges
-pub record BillCells : Type 0 where
-  pub fees : Keyed Cell
-  pub recurring : Keyed Cell
-
--- What an account is. The overdue state is a name, none for CLEAR; beside it stands the day of the last
--- transition. What is charged and credited beside subscriptions is kept as one sum, in minor units.
+-- What an account is. Of each subscription, in order of creation, stand the items that charge it. What is
+-- charged and credited beside subscriptions is kept as one sum, in minor units. The overdue state is a name,
+-- none for CLEAR; beside it stands the day of the last transition.
 pub record BookValue : Type 0 where
   pub account : List ℕ
   pub currency : List ℕ
@@ -37,7 +32,7 @@ pub record BookValue : Type 0 where
   pub beside : ℤ
   pub payments : PaymentsValue
   pub invoices : InvoicesValue
-  pub cells : List BillCells
+  pub charges : List SubscriptionItems
   pub overdue : Option (List ℕ)
   pub transition : Option ℕ
   pub commands : ℕ
@@ -56,7 +51,7 @@ new_book account currency bcd autopay = record {
   beside = pos 0;
   payments = no_payments;
   invoices = no_invoices;
-  cells = [];
+  charges = [];
   overdue = None;
   transition = None;
   commands = 0;

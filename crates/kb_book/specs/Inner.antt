@@ -1,29 +1,29 @@
 -- What a book asks for by itself: an overdue transition, and an automatic payment.
-use Rattle.std.specs.Prelude.{ℕ, Bool, true, false, not, ◌&&◌, ◌==◌, nat_lt, nat_le, List, length, Option}
-use Rattle.std.specs.Prelude.{Some, None, option_map, option_and_then, slice_get, bytes_eq, find, pos}
-use Rattle.std.specs.Prelude.{int_lt, ◌≡◌, refl}
+use Rattle.std.specs.Prelude.{ℕ, Bool, true, false, not, ◌&&◌, ◌==◌, nat_lt, List, Option, Some, None}
+use Rattle.std.specs.Prelude.{option_map, option_and_then, slice_get, bytes_eq, find, pos, int_lt, ◌≡◌, refl}
 use Rattle.kb_days.specs.Dates.{march}
 use Rattle.kb_overdue.specs.declared.state.OverdueState.{OverdueState}
 use Rattle.kb_overdue.specs.declared.arrears.Arrears.{Arrears}
 use Rattle.kb_overdue.specs.OverdueDays.{state_on}
-use Rattle.kb_blocking.specs.Blocking.{max_states}
-use Rattle.kb_credit.specs.InvoiceRows.{unpaid, unpaid_count, earliest_unpaid, unpaid_numbers}
-use Rattle.kb_payment.specs.PaymentSums.{open_purchases, has_automatic_since}
-use Rattle.kb_book.specs.Worlds.{WorldValue}
-use Rattle.kb_book.specs.Books.{BookValue}
+use Rattle.kb_credit.specs.InvoiceRows.{InvoicesValue, unpaid, unpaid_count, earliest_unpaid, unpaid_numbers}
+use Rattle.kb_payment.specs.PaymentSums.{PaymentsValue, open_purchases, has_automatic_since}
 
 -- what an account owes
-abbrev pub arrears_of : BookValue → Arrears
-arrears_of book = record {
-  earliest = earliest_unpaid book.invoices.rows;
-  count = unpaid_count book.invoices.rows;
-  total = unpaid book.invoices.rows;
+abbrev pub arrears_of : InvoicesValue → Arrears
+arrears_of invoices = record {
+  earliest = earliest_unpaid invoices.rows;
+  count = unpaid_count invoices.rows;
+  total = unpaid invoices.rows;
 }
 
 -- the overdue state of a day by what is unpaid; none is CLEAR
-abbrev pub state_of : WorldValue → BookValue → ℕ → Option OverdueState
-state_of world book day =
-    option_and_then (slice_get world.states) (state_on world.states (arrears_of book) day)
+abbrev pub state_of : List OverdueState → InvoicesValue → ℕ → Option OverdueState
+state_of states invoices day =
+    option_and_then (slice_get states) (state_on states (arrears_of invoices) day)
+
+-- the name of that state
+abbrev pub state_name : Option OverdueState → Option (List ℕ)
+state_name state = option_map (λ (state : OverdueState). state.name) state
 
 -- two names, or none, are the same
 abbrev pub same_name : Option (List ℕ) → Option (List ℕ) → Bool
@@ -41,36 +41,27 @@ not_twice_on_a_day : is_after (Some (march 8)) (march 8) ≡ false
 not_twice_on_a_day = refl
 
 -- a transition is due: the state of today isn't the present one, and the last transition was before today
-abbrev pub is_transition_due : WorldValue → BookValue → ℕ → Bool
-is_transition_due world book today =
-    is_after book.transition today
-    && not (same_name (option_map (λ (state : OverdueState). state.name) (state_of world book today))
-    book.overdue)
+abbrev pub is_transition_due : List OverdueState → InvoicesValue → Option ℕ → Option (List ℕ) → ℕ → Bool
+is_transition_due states invoices transition overdue today =
+    is_after transition today && not (same_name (state_name (state_of states invoices today)) overdue)
 
 -- an automatic payment of an invoice may be made today: no purchase of it is open, and it has no automatic
 -- attempt of today or later
-abbrev pub may_be_paid : BookValue → ℕ → ℕ → Bool
-may_be_paid book today invoice =
-    not (int_lt (pos 0) (open_purchases book.payments invoice))
-    && not (has_automatic_since book.payments invoice today)
+abbrev pub may_be_paid : PaymentsValue → ℕ → ℕ → Bool
+may_be_paid payments today invoice =
+    not (int_lt (pos 0) (open_purchases payments invoice))
+    && not (has_automatic_since payments invoice today)
 
--- the invoice whose automatic payment is due: the lowest unpaid one that may be paid
-abbrev pub invoice_due : BookValue → ℕ → Option ℕ
-invoice_due book today =
-    if_autopay book.autopay (find (may_be_paid book today) (unpaid_numbers 1 book.invoices.rows))
-  where
-    if_autopay : Bool → Option ℕ → Option ℕ
-    if_autopay true found = found
-    if_autopay false found = None
+-- the lowest unpaid invoice that may be paid
+abbrev pub invoice_to_pay : PaymentsValue → InvoicesValue → ℕ → Option ℕ
+invoice_to_pay payments invoices today = find (may_be_paid payments today) (unpaid_numbers 1 invoices.rows)
 
--- the automatic payment of this invoice is due
-abbrev pub is_payment_due : BookValue → ℕ → ℕ → Bool
-is_payment_due book today invoice = of_due (invoice_due book today)
-  where
-    of_due : Option ℕ → Bool
-    of_due None = false
-    of_due (Some lowest) = lowest == invoice
+-- the invoice whose automatic payment is due: that one, where invoices are paid by themselves
+abbrev pub invoice_due : Bool → PaymentsValue → InvoicesValue → ℕ → Option ℕ
+invoice_due true payments invoices today = invoice_to_pay payments invoices today
+invoice_due false payments invoices today = None
 
--- one more blocking state would be one too many
-abbrev pub has_all_states : BookValue → Bool
-has_all_states book = nat_le max_states (length book.blocks)
+-- it is this one
+abbrev pub is_this : Option ℕ → ℕ → Bool
+is_this None invoice = false
+is_this (Some lowest) invoice = lowest == invoice

@@ -1,8 +1,13 @@
 pub mod Worlds
+pub mod Issues
 pub mod Books
 pub mod Dues
-pub mod BookItems
-pub mod AskedPlans
+pub mod Rows
+pub mod SubscriptionEdits
+pub mod SubscriptionRows
+pub mod BlockEdits
+pub mod BlockRows
+pub mod PaymentRows
 pub mod Inner
 pub mod Refusals
 pub mod Edits

@@ -1,6 +1,6 @@
 -- An account with one subscription, command by command, over some weeks.
 use Rattle.std.specs.Prelude.{ℕ, ◌≡◌, [], ◌∷◌, codes, Option, Some, None, Result, Ok, Err, pos, neg_ℤ, true}
-use Rattle.std.specs.Prelude.{false, refl}
+use Rattle.std.specs.Prelude.{false, Bool, refl}
 use Rattle.kb_base.specs.Runs.{runs}
 use Rattle.kb_days.specs.Calendar.{month_of, month_after, month_start, month_length}
 use Rattle.kb_days.specs.Dates.{march}
@@ -23,7 +23,8 @@ use Rattle.kb_book.specs.declared.refusal.Refusal.{Refusal}
 use Rattle.kb_book.specs.declared.refusal.Refusal.TheVariants.{KeyReused}
 use Rattle.kb_book.specs.Worlds.{WorldValue}
 use Rattle.kb_book.specs.Books.{BookValue, new_book}
-use Rattle.kb_book.specs.Refusals.{first_refusal, own_rows}
+use Rattle.kb_book.specs.Rows.{first_refusal}
+use Rattle.kb_book.specs.Refusals.{own_rows}
 use Rattle.kb_book.specs.Steps.{Outcome, accepted_over, step_over}
 use Rattle.kb_book.specs.Inner.{invoice_due, is_transition_due}
 use Rattle.kb_overdue.specs.OverdueDays.{state_on, is_reached_at}
@@ -131,17 +132,21 @@ other_day = refl
 abbrev automatic : BookValue
 automatic = record started { autopay = true }
 
+-- the invoice of a book whose automatic payment is due
+abbrev payment_due : BookValue → ℕ → Option ℕ
+payment_due book today = invoice_due book.autopay book.payments book.invoices today
+
 -- the invoice that is unpaid is paid automatically, and not before it is issued
-due_in_march : invoice_due automatic (march 1) ≡ Some 1
+due_in_march : payment_due automatic (march 1) ≡ Some 1
 unfolding new_repairs new_bills days_cost runs due_on fee_on cell_on is_on phase_on phase_starts period_on
     last_day_on next_day_after is_boundary first_month month_of month_after month_start month_length
 due_in_march = refl
 
-nothing_due_at_first : invoice_due (record opened { autopay = true }) (march 1) ≡ None
+nothing_due_at_first : payment_due (record opened { autopay = true }) (march 1) ≡ None
 nothing_due_at_first = refl
 
 -- while a purchase of it is open nothing is due, and once it is paid either
-nothing_due_while_open : invoice_due (record paying { autopay = true }) (march 2) ≡ None
+nothing_due_while_open : payment_due (record paying { autopay = true }) (march 2) ≡ None
 unfolding new_repairs new_bills days_cost runs due_on fee_on cell_on is_on phase_on phase_starts period_on
     last_day_on next_day_after is_boundary first_month month_of month_after month_start month_length
 nothing_due_while_open = refl
@@ -160,13 +165,18 @@ strict = record world {
   } ∷ [];
 }
 
-due_on_the_8th : is_transition_due strict started (march 8) ≡ true
+-- a transition of a book is due
+abbrev transition_due : WorldValue → BookValue → ℕ → Bool
+transition_due world book today =
+    is_transition_due world.states book.invoices book.transition book.overdue today
+
+due_on_the_8th : transition_due strict started (march 8) ≡ true
 unfolding new_repairs new_bills days_cost runs due_on fee_on cell_on is_on phase_on phase_starts period_on
     last_day_on next_day_after is_boundary first_month month_of month_after month_start month_length
     state_on is_reached_at
 due_on_the_8th = refl
 
-not_on_the_7th : is_transition_due strict started (march 7) ≡ false
+not_on_the_7th : transition_due strict started (march 7) ≡ false
 unfolding new_repairs new_bills days_cost runs due_on fee_on cell_on is_on phase_on phase_starts period_on
     last_day_on next_day_after is_boundary first_month month_of month_after month_start month_length
     state_on is_reached_at

@@ -21,9 +21,11 @@ use Rattle.kb_book.specs.declared.refusal.Refusal.{Refusal}
 use Rattle.kb_book.specs.declared.refusal.Refusal.TheVariants as refusal
 use Rattle.kb_book.specs.Worlds.{WorldValue}
 use Rattle.kb_book.specs.Books.{BookValue, Kept}
-use Rattle.kb_book.specs.BookItems.{Issue, issue_over}
+use Rattle.kb_book.specs.Issues.{Issue, issue_from}
+use Rattle.kb_book.specs.Dues.{facts_of}
 use Rattle.kb_book.specs.Edits.{begun}
-use Rattle.kb_book.specs.Refusals.{Rows, first_refusal, own_rows, limit, max_commands}
+use Rattle.kb_book.specs.Rows.{Rows, first_refusal, limit}
+use Rattle.kb_book.specs.Refusals.{own_rows, max_commands}
 
 -- the request key of a command of a caller
 abbrev pub key_of : Command → Option (List ℕ)
@@ -81,6 +83,11 @@ own_lines (kinds.Auto c) = []
 own_lines (kinds.Settle c) = []
 own_lines (kinds.Overdue c) = []
 
+-- the new items of a book over a number of days from one on; their numbers go on from those of all items
+abbrev pub issue_over : WorldValue → BookValue → ℕ → ℕ → Issue
+issue_over world book day count =
+    issue_from (facts_of world book) book.billed day count (length book.invoices.items + 1) 0 book.charges
+
 -- an invoice of today with these lines, if there are any
 abbrev pub with_invoice : InvoicesValue → ℕ → List Line → InvoicesValue
 with_invoice invoices today [] = invoices
@@ -104,7 +111,7 @@ with_paid payments invoices = record invoices { rows = paid_from payments 1 invo
 abbrev pub billed_with : BookValue → ℕ → Issue → List Line → BookValue
 billed_with book today issue own = record book {
   invoices = levelled (with_paid book.payments (with_invoice book.invoices today (issue.lines ++ own)));
-  cells = issue.cells;
+  charges = issue.charges;
   commands = book.commands + 1;
 }
 
