@@ -1,0 +1,4 @@
+pub mod CellCosts
+pub mod Pieces
+pub mod NumberedItems
+pub mod Issued

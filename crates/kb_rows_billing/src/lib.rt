@@ -1,0 +1,5 @@
+//! Worked rows of what is issued.
+#![tactic(auto)]
+
+#[cfg(test)]
+mod issues;
