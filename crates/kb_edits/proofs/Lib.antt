@@ -1,0 +1,4 @@
+pub mod FoundSubscriptions
+pub mod UnpaidNumbers
+pub mod Balances
+pub mod DueInvoices
