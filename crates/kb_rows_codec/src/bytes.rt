@@ -84,36 +84,38 @@ fn nothing_may_follow(rt: HostRuntime) -> Result<(), Fail> {
     Ok(())
 }
 
-/// Whether changes of the byte at a place make no command, or one that is spelled so.
-fn are_read_as_spelled(alloc: Global, bytes: &[u8], place: usize) -> Result<bool, Fail>
+/// Whether bytes, with another one at a place, are no command, or one that is spelled so.
+pub(crate) fn is_read_as_spelled(
+    alloc: Global,
+    bytes: &[u8],
+    place: usize,
+    byte: u8,
+) -> Result<bool, Fail>
     requires { place < length bytes.now }
 {
-    for byte in [0, 1, 2, 65, 128, 255] {
-        let mut changed = bytes.to_vec(alloc)?;
-        changed[place] = byte;
-        if is_spelled_so(alloc, &changed)? == Some(false) {
-            return Ok(false);
-        }
-    }
-    Ok(true)
+    let mut changed = bytes.to_vec(alloc)?;
+    changed[place] = byte;
+    Ok(is_spelled_so(alloc, &changed)?.unwrap_or(true))
 }
 
 #[test]
 fn a_changed_byte_is_read_as_spelled(rt: HostRuntime) -> Result<(), Fail> {
     for bytes in spellings() {
         for place in 0..bytes.len() {
-            assert!(rt; are_read_as_spelled(rt.alloc(), bytes, place)?);
+            for byte in 0..=255u8 {
+                assert!(rt; is_read_as_spelled(rt.alloc(), bytes, place, byte)?);
+            }
         }
     }
     Ok(())
 }
 
-/// How many bytes of a kind and two more are a command.
-fn commands_of_three_bytes(alloc: Global, kind: u8) -> Result<u32, Fail> {
+/// How many strings of three bytes that begin with this one are a command.
+fn commands_of_three_bytes(alloc: Global, first: u8) -> Result<u32, Fail> {
     let mut count = 0u32;
     for second in 0..=255u8 {
         for third in 0..=255u8 {
-            if is_command(alloc, &[kind, second, third])? {
+            if is_command(alloc, &[first, second, third])? {
                 count = count.saturating_add(1);
             }
         }
@@ -121,18 +123,49 @@ fn commands_of_three_bytes(alloc: Global, kind: u8) -> Result<u32, Fail> {
     Ok(count)
 }
 
+/// Whether the strings of three bytes that begin with one of these are commands as they should be: there are
+/// those of kind 20, for each account of one letter.
+fn are_judged_right(alloc: Global, from: u8, to: u8) -> Result<bool, Fail> {
+    for first in from..=to {
+        let count = if first == 20 { 65 } else { 0 };
+        if commands_of_three_bytes(alloc, first)? != count {
+            return Ok(false);
+        }
+    }
+    Ok(true)
+}
+
 #[test]
-fn few_bytes_are_a_command(rt: HostRuntime) -> Result<(), Fail> {
+fn no_command_of_one_or_two_bytes(rt: HostRuntime) -> Result<(), Fail> {
     for first in 0..=255u8 {
         assert!(rt; !is_command(rt.alloc(), &[first])?);
         for second in 0..=255u8 {
             assert!(rt; !is_command(rt.alloc(), &[first, second])?);
         }
     }
-    // of three bytes there are those of kind 20, for each account of one letter
-    for kind in 0..=21u8 {
-        let count = if kind == 20 { 65 } else { 0 };
-        assert_eq!(rt; commands_of_three_bytes(rt.alloc(), kind)?, count, "{kind}");
-    }
+    Ok(())
+}
+
+#[test]
+fn three_bytes_from_0_on(rt: HostRuntime) -> Result<(), Fail> {
+    assert!(rt; are_judged_right(rt.alloc(), 0, 63)?);
+    Ok(())
+}
+
+#[test]
+fn three_bytes_from_64_on(rt: HostRuntime) -> Result<(), Fail> {
+    assert!(rt; are_judged_right(rt.alloc(), 64, 127)?);
+    Ok(())
+}
+
+#[test]
+fn three_bytes_from_128_on(rt: HostRuntime) -> Result<(), Fail> {
+    assert!(rt; are_judged_right(rt.alloc(), 128, 191)?);
+    Ok(())
+}
+
+#[test]
+fn three_bytes_from_192_on(rt: HostRuntime) -> Result<(), Fail> {
+    assert!(rt; are_judged_right(rt.alloc(), 192, 255)?);
     Ok(())
 }

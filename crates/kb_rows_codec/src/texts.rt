@@ -1,6 +1,6 @@
 //! Commands with a text.
 
-use crate::bytes::{is_command, is_spelled_so};
+use crate::bytes::{is_command, is_read_as_spelled, is_spelled_so};
 use kb_samples::{CLUB, OVERDUE, SHOP};
 use std::alloc::Global;
 use std::test::Fail;
@@ -23,6 +23,18 @@ fn texts_there_and_back(rt: HostRuntime) -> Result<(), Fail> {
     for (kind, text) in [(1, SHOP), (1, CLUB), (2, OVERDUE), (2, ""), (2, "# none")] {
         let bytes = with_text(rt.alloc(), kind, text.as_bytes())?;
         assert_eq!(rt; is_spelled_so(rt.alloc(), &bytes)?, Some(true), "{kind}");
+    }
+    Ok(())
+}
+
+#[test]
+fn texts_that_are_cut_or_changed(rt: HostRuntime) -> Result<(), Fail> {
+    for (kind, text) in [(1, SHOP), (2, OVERDUE)] {
+        let bytes = with_text(rt.alloc(), kind, text.as_bytes())?;
+        for place in 0..bytes.len() {
+            assert!(rt; !is_command(rt.alloc(), &bytes[..place])?);
+            assert!(rt; is_read_as_spelled(rt.alloc(), &bytes, place, b'1')?);
+        }
     }
     Ok(())
 }
