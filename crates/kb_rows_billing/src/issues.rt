@@ -32,7 +32,7 @@ type LineRow = (Kind, u32, &'static str, &'static str, i128);
 type Turn = (&'static [Step], &'static str, &'static [LineRow]);
 
 /// A name, the cycle day, and turns; no subscription is created after the first one.
-const ROWS: [(&str, u32, &[Turn]); 6] = [
+const ROWS: [(&str, u32, &[Turn]); 7] = [
     (
         "a cancellation in the past",
         1,
@@ -110,6 +110,73 @@ const ROWS: [(&str, u32, &[Turn]); 6] = [
                 }],
                 "2024-03-30",
                 &[(Kind::Recurring, 0, "2024-03-09", "2024-03-31", 11)],
+            ),
+        ],
+    ),
+    (
+        "blocks of two scopes",
+        1,
+        &[
+            (
+                &[Step::Create {
+                    plan: "basic-monthly",
+                    from: "2024-03-01",
+                    addon: false,
+                }],
+                "2024-03-01",
+                &[(Kind::Recurring, 0, "2024-03-01", "2024-04-01", 1000)],
+            ),
+            (
+                &[Step::Block {
+                    scope: Scope::Account,
+                    service: "fraud",
+                    from: "2024-03-10",
+                    billing: true,
+                    entitlement: false,
+                }],
+                "2024-03-25",
+                &[(Kind::Repair(1), 0, "2024-03-10", "2024-04-01", -710)],
+            ),
+            (
+                &[Step::Block {
+                    scope: Scope::Subscription(0),
+                    service: "support",
+                    from: "2024-03-15",
+                    billing: true,
+                    entitlement: false,
+                }],
+                "2024-03-25",
+                &[],
+            ),
+            (
+                &[Step::Block {
+                    scope: Scope::Account,
+                    service: "fraud",
+                    from: "2024-03-20",
+                    billing: false,
+                    entitlement: false,
+                }],
+                "2024-03-25",
+                &[],
+            ),
+            (
+                &[Step::Block {
+                    scope: Scope::Subscription(0),
+                    service: "support",
+                    from: "2024-03-28",
+                    billing: false,
+                    entitlement: false,
+                }],
+                "2024-03-25",
+                &[],
+            ),
+            (
+                &[],
+                "2024-04-01",
+                &[
+                    (Kind::Recurring, 0, "2024-03-28", "2024-04-01", 129),
+                    (Kind::Recurring, 0, "2024-04-01", "2024-05-01", 1000),
+                ],
             ),
         ],
     ),
