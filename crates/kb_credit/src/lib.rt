@@ -20,4 +20,5 @@ mod threads;
 pub use invoice::Invoice;
 pub use invoices::Invoices;
 pub use line::Line;
+pub use lines::total_of;
 pub use row::Row;

@@ -25,8 +25,8 @@ pub(crate) fn issued_row(day: Day, lines: &[Line]) -> Row
     }
 }
 
-/// What some lines amount to.
-fn total_of(lines: &[Line]) -> i128
+/// What some lines amount to, in minor units.
+pub fn total_of(lines: &[Line]) -> i128
     requires bounded { size_of amount_of lines.now ≤ 2 ^ 120 }
     ensures { result ≡ sum_of amount_of lines.now }
 {
