@@ -1,8 +1,9 @@
 //! What is issued for all subscriptions of an account.
-ghost use Rattle.std.specs.Prelude.{◌≡◌, ◌≤◌, ◌+◌, ◌^◌, length, All, IfOk};
+ghost use Rattle.std.specs.Prelude.{◌≡◌, ◌≤◌, ◌+◌, ◌*◌, ◌^◌, length, All, IfOk};
 ghost use Rattle.kb_days.specs.Calendar.{first_day, charged_days};
 ghost use Rattle.kb_book.specs.Issues as told;
 ghost use Rattle.kb_billing.specs.Numbers.{AreBelow};
+ghost use Rattle.kb_billing.specs.ItemLines.{IsItemLine};
 
 use crate::{SubscriptionCharges, subscription_issue};
 use kb_base::NoMemory;
@@ -37,6 +38,8 @@ pub fn issue_due<L: Ledger>(
         ≡ told.issue_from facts.now billed.now first_day charged_days first 0 charges.now) }
     ensures below { IfOk result (λ issue. All (AreBelow (first + length issue.lines.items))
         issue.charges.items) }
+    ensures few { IfOk result (λ issue. length issue.lines.items ≤ 4 * charged_days * length charges.now) }
+    ensures plain { IfOk result (λ issue. All IsItemLine issue.lines.items) }
     ensures steps { steps.new ≡ steps.old }
 {
     // The check has to see that places are u32.

@@ -3,6 +3,7 @@ ghost use Rattle.std.specs.Prelude.{◌≡◌, ◌≤◌, ◌+◌, ◌*◌, ◌^
 ghost use Rattle.kb_tree.specs.Items.{cell_at};
 ghost use Rattle.kb_tree.specs.Amounts.{IsPriced};
 ghost use Rattle.kb_book.specs.Issues as told;
+ghost use Rattle.kb_billing.specs.ItemLines.{IsItemLine};
 
 use crate::{Coverage, days_cost};
 use kb_base::NoMemory;
@@ -18,8 +19,9 @@ pub fn push_lines(
     items: &[NewItem],
 ) -> Result<(), NoMemory>
     requires priced { All (IsPriced (cell_at coverage.now)) items.now }
-    ensures { OnOk result (lines.new.items
+    ensures lines { OnOk result (lines.new.items
         ≡ lines.old.items ++ told.lines_of sub recurring (cell_at coverage.now) items.now) }
+    ensures plain { OnOk result (All IsItemLine lines.old.items → All IsItemLine lines.new.items) }
 {
     for item in items {
         lines.push(line_of(sub, recurring, coverage, item))?;
@@ -30,7 +32,8 @@ pub fn push_lines(
 /// An item as a line.
 fn line_of(sub: u32, recurring: bool, coverage: &Coverage, item: &NewItem) -> Line
     requires priced { IsPriced (cell_at coverage.now) item.now }
-    ensures { result ≡ told.line_of sub recurring (cell_at coverage.now) item.now }
+    ensures line { result ≡ told.line_of sub recurring (cell_at coverage.now) item.now }
+    ensures plain { IsItemLine result }
 {
     match item {
         NewItem::Bill { from, to, cell } => Line::Bill {

@@ -1,9 +1,10 @@
 //! What is charged to one subscription.
-ghost use Rattle.std.specs.Prelude.{◌≡◌, ◌≤◌, ◌<◌, ◌+◌, ◌*◌, ◌^◌, ◌∷◌, [], length, IfOk};
+ghost use Rattle.std.specs.Prelude.{◌≡◌, ◌≤◌, ◌<◌, ◌+◌, ◌*◌, ◌^◌, ◌∷◌, [], length, All, IfOk};
 ghost use Rattle.kb_days.specs.Calendar.{first_day, charged_days};
 ghost use Rattle.kb_due.specs.DueDays.{due_at, fee_at};
 ghost use Rattle.kb_book.specs.Issues as told;
 ghost use Rattle.kb_billing.specs.Numbers.{AreBelow};
+ghost use Rattle.kb_billing.specs.ItemLines.{IsItemLine};
 
 use crate::{Coverage, due_pieces, fee_pieces, push_lines};
 use kb_base::NoMemory;
@@ -71,6 +72,7 @@ pub fn subscription_issue<L: Ledger>(
         charged_days number sub charges.now) }
     ensures below { IfOk result (λ made. AreBelow (number + length made.1.items) made.0) }
     ensures few { IfOk result (λ made. length made.1.items ≤ 4 * charged_days) }
+    ensures plain { IfOk result (λ made. All IsItemLine made.1.items) }
     ensures steps { steps.new ≡ steps.old }
 {
     let fee_cells = fee_pieces(alloc, facts, sub, billed)?;

@@ -1,5 +1,8 @@
 -- A subscription more is issued.
-use Rattle.std.proofs.Common.{◌≡◌, ◌+◌, ◌∷◌, ◌++◌, [], length, ap, ◌∙◌, arith, List, length-append}
+use Rattle.std.proofs.Common.{◌≡◌, ◌+◌, ◌∷◌, ◌++◌, [], length, ap, sym, subst, ◌∙◌, arith, List, All}
+use Rattle.std.proofs.Common.{length-append}
+use Rattle.std.proofs.lemmas.List.Elements.{All-append}
+use Rattle.kb_billing.specs.ItemLines.{IsItemLine}
 use Rattle.kb_billing.proofs.Issued.{issue_from-more, one-below, all-below, AreBelow-higher}
 use Rattle.kb_credit.specs.declared.line.Line.{Line}
 use Rattle.kb_billing.proofs.issue.issue_due.Goals as goal
@@ -35,4 +38,9 @@ loop-items-preserved g c =
           ∙ ap (λ (lines : List Line). l.lines.items ++ lines) c.deref.ensures.value)
           c.in_ok-push.ensures.items c.in_ok-more.ensures.issue
           ∙ walk.4,
+      subst (λ (lines : List Line). All IsItemLine lines)
+          (sym
+          (c.in_ok-extend_from_slice.ensures.items
+          ∙ ap (λ (lines : List Line). l.lines.items ++ lines) c.deref.ensures.value))
+          (All-append IsItemLine l.lines.items c.in_ok-more.new_lines.items walk.5 c.in_ok-more.ensures.plain),
     )

@@ -4,6 +4,7 @@ use Rattle.std.proofs.Common.{◌≡◌, ◌+◌, ◌*◌, ◌≤◌, drop, leng
 use Rattle.kb_days.specs.Calendar.{first_day, charged_days}
 use Rattle.kb_book.specs.Issues.{both_issues, issue_from}
 use Rattle.kb_billing.specs.Numbers.{AreBelow}
+use Rattle.kb_billing.specs.ItemLines.{IsItemLine}
 use Rattle.kb_billing.proofs.issue.issue_due.Given as goal
 
 abbrev pub invariant-loop-items : goal.invariant-loop-items
@@ -16,3 +17,4 @@ invariant-loop-items g l =
     (issue_from l.facts l.billed first_day charged_days (l.first + length l.lines.items) l.items-index
     (drop l.items-index l.charges))
     ≡ issue_from l.facts l.billed first_day charged_days l.first 0 l.charges)
+    × All IsItemLine l.lines.items
