@@ -1,0 +1,100 @@
+-- What is paid on rows is what payments say.
+use Rattle.std.proofs.Common.{◌≡◌, ℕ, zero, suc, ◌+◌, ◌-◌, ◌<◌, ◌≤◌, Bool, true, false, ◌==◌, List, []}
+use Rattle.std.proofs.Common.{◌∷◌}
+use Rattle.std.proofs.Common.{length, ℤ, ◌+ℤ◌, refl, ap}
+use Rattle.std.proofs.Common.{◌∙◌, arith}
+use Rattle.std.proofs.lemmas.Int.{ints}
+use Rattle.std.proofs.lemmas.Bool.{eq-eqb, eqb-true}
+use Rattle.kb_credit.specs.declared.row.Row.{Row}
+use Rattle.kb_credit.specs.InvoiceRows.{InvoicesValue}
+use Rattle.kb_credit.specs.InvoiceEdits.{paid_at, issued, levelled}
+use Rattle.kb_credit.specs.InvoiceEdits as edits
+use Rattle.kb_payment.specs.PaymentSums.{PaymentsValue, paid_on, Moves}
+use Rattle.kb_book.specs.Steps.{paid_from, with_paid}
+
+-- a row with what is paid on it
+abbrev pub noted : ℤ → Row → Row
+noted amount row = record row { paid = amount }
+
+-- payments that pay the same note the same
+pub paid_from-same : (old new : PaymentsValue) → ((asked : ℕ) → paid_on new asked ≡ paid_on old asked)
+    → (number : ℕ) (rows : List Row) → paid_from new number rows ≡ paid_from old number rows
+paid_from-same old new same number [] = refl
+paid_from-same old new same number (row ∷ rows) =
+    let here = ap (λ (amount : ℤ). noted amount row) (same number) in
+    let later = paid_from-same old new same (number + 1) rows in
+    cc
+
+pub with_paid-same : (old new : PaymentsValue) (invoices : InvoicesValue) → with_paid old invoices ≡ invoices
+    → ((asked : ℕ) → paid_on new asked ≡ paid_on old asked) → with_paid new invoices ≡ invoices
+with_paid-same old new invoices is same =
+    ap (λ (rows : List Row). record invoices { rows = rows }) (paid_from-same old new same 1 invoices.rows)
+    ∙ is
+
+-- where payments move on an invoice that isn't there, they note the same
+paid_from-apart : (old new : PaymentsValue) (invoice : ℕ) (amount : ℤ) → Moves old new invoice amount
+    → (number : ℕ) (rows : List Row) → invoice < number
+    → paid_from new number rows ≡ paid_from old number rows
+paid_from-apart old new invoice amount moves number [] before = refl
+paid_from-apart old new invoice amount moves number (row ∷ rows) before =
+    let here = ap (λ (amount : ℤ). noted amount row) (stays (invoice == number) refl) in
+    let later = paid_from-apart old new invoice amount moves (number + 1) rows (omega arith) in
+    cc
+  where
+    stays : (same : Bool) → (invoice == number) ≡ same → paid_on new number ≡ paid_on old number
+    stays true is = absurd (omega (arith, eqb-true invoice number is))
+    stays false is = moves number ∙ rw is (omega (arith, ints))
+
+-- where they move on one that is there, the row of that number moves
+paid_from-moved : (old new : PaymentsValue) (invoice : ℕ) (amount : ℤ) → Moves old new invoice amount
+    → (place number : ℕ) (rows : List Row) → number + place ≡ invoice
+    → paid_from new number rows ≡ paid_at place amount (paid_from old number rows)
+paid_from-moved old new invoice amount moves place number [] at = refl
+paid_from-moved old new invoice amount moves zero number (row ∷ rows) at =
+    let same : invoice ≡ number = omega arith in
+    let more : paid_on new number ≡ paid_on old number +ℤ amount =
+    moves number ∙ rw (eq-eqb invoice number same) refl in
+    let here = ap (λ (sum : ℤ). noted sum row) more in
+    let later = paid_from-apart old new invoice amount moves (number + 1) rows (omega arith) in
+    cc
+paid_from-moved old new invoice amount moves (suc place) number (row ∷ rows) at =
+    let here = ap (λ (sum : ℤ). noted sum row) (stays (invoice == number) refl) in
+    let later = paid_from-moved old new invoice amount moves place (number + 1) rows (omega arith) in
+    cc
+  where
+    stays : (same : Bool) → (invoice == number) ≡ same → paid_on new number ≡ paid_on old number
+    stays true is = absurd (omega (arith, eqb-true invoice number is))
+    stays false is = moves number ∙ rw is (omega (arith, ints))
+
+-- the invoice of the number has that much more paid on it
+pub with_paid-moved : (old new : PaymentsValue) (invoices : InvoicesValue) (invoice : ℕ) (amount : ℤ)
+    → Moves old new invoice amount → 1 ≤ invoice → with_paid old invoices ≡ invoices
+    → with_paid new invoices ≡ edits.paid_on invoices invoice amount
+with_paid-moved old new invoices invoice amount moves some is =
+    ap (λ (rows : List Row). record invoices { rows = rows })
+    (paid_from-moved old new invoice amount moves (invoice - 1) 1 invoices.rows (omega arith))
+    ∙ ap (λ (before : InvoicesValue). edits.paid_on before invoice amount) is
+
+-- a place that isn't there has nothing more paid on it
+paid_at-past : (place : ℕ) (amount : ℤ) (rows : List Row) → length rows ≤ place
+    → paid_at place amount rows ≡ rows
+paid_at-past place amount [] past = refl
+paid_at-past zero amount (row ∷ rows) past = absurd (omega arith)
+paid_at-past (suc place) amount (row ∷ rows) past =
+    ap (λ (later : List Row). row ∷ later) (paid_at-past place amount rows (omega arith))
+
+pub with_paid-past : (old new : PaymentsValue) (invoices : InvoicesValue) (invoice : ℕ) (amount : ℤ)
+    → Moves old new invoice amount → length invoices.rows < invoice → with_paid old invoices ≡ invoices
+    → with_paid new invoices ≡ invoices
+with_paid-past old new invoices invoice amount moves past is =
+    with_paid-moved old new invoices invoice amount moves (omega arith) is
+    ∙ ap (λ (rows : List Row). record invoices { rows = rows })
+    (paid_at-past (invoice - 1) amount invoices.rows (omega arith))
+
+pub with_paid-none : (old new : PaymentsValue) (invoices : InvoicesValue) (amount : ℤ)
+    → Moves old new 0 amount
+    → with_paid old invoices ≡ invoices → with_paid new invoices ≡ invoices
+with_paid-none old new invoices amount moves is =
+    ap (λ (rows : List Row). record invoices { rows = rows })
+    (paid_from-apart old new 0 amount moves 1 invoices.rows (omega arith))
+    ∙ is

@@ -1,0 +1,5 @@
+pub mod OwnKeys
+pub mod SoundBooks
+pub mod BilledBooks
+pub mod AddedItems
+pub mod NextDues
