@@ -1,0 +1,12 @@
+pub mod KeptEntries
+pub mod MovedInvoices
+pub mod PaymentMoves
+pub mod NextBooks
+pub mod DueInvoices
+pub mod AutoKeyNames
+pub mod StartedCharges
+pub mod SoundNexts
+pub mod BegunNexts
+pub mod AllowedDues
+pub mod PreparedSteps
+pub mod OpenedBooks

@@ -1,0 +1,2 @@
+pub mod Prepares
+pub mod Private

@@ -1,0 +1,4 @@
+pub mod States
+pub mod Begins
+pub mod Moves
+pub mod KeptAnswers

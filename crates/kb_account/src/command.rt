@@ -1,0 +1,58 @@
+//! A command's own edit, or its first refusal.
+ghost use Rattle.std.specs.Prelude.{◌≡◌, None, OnOk, IfOk, IfErr};
+ghost use Rattle.kb_book.specs.Rows.{IsUnprepared};
+ghost use Rattle.kb_book.specs.Edits.{begun};
+ghost use Rattle.kb_account.specs.Private.States.{value_of};
+ghost use Rattle.kb_account.specs.Private.Begins.{begun_of, own_refusal, IsBegun};
+ghost use Rattle.kb_laws.specs.SoundBooks.{IsBook};
+
+mod blocking;
+mod money;
+mod payments;
+mod subscriptions;
+
+use crate::{Begun, State, World};
+use kb_book::{Refusal, Unprepared};
+use kb_codec::Command;
+use kb_days::Day;
+use std::alloc::Global;
+
+impl State {
+    /// What a command's own edit makes of the account; or why the command is refused.
+    pub fn begin(
+        &self,
+        alloc: Global,
+        world: &World,
+        today: Day,
+        command: &Command,
+    ) -> Result<Begun, Unprepared>
+        requires sound { IsBook (value_of self.now) }
+        ensures accepted { OnOk result (own_refusal world.now (value_of self.now) today command.now ≡ None) }
+        ensures begun { IfOk result (λ edit. begun_of (value_of self.now) edit
+            ≡ begun world.now (value_of self.now) today command.now) }
+        ensures sound { IfOk result (λ edit. IsBegun (value_of self.now) edit) }
+        ensures refused { IfErr result (IsUnprepared (own_refusal world.now (value_of self.now) today command.now)) }
+    {
+        match command {
+            Command::Catalog(_) | Command::OverdueRules(_) => Ok(self.unedited()?),
+            Command::OpenAccount(_) => Err(Unprepared::Refused(Refusal::AccountExists)),
+            Command::Create(create) => self.create(alloc, world, today, create),
+            Command::Change(change) => self.change(alloc, world, today, change),
+            Command::Cancel(cancel) => self.cancel(alloc, world, today, cancel),
+            Command::Uncancel(uncancel) => self.uncancel(alloc, world, today, uncancel),
+            Command::Pause(pause) => self.pause(alloc, world, today, pause),
+            Command::Resume(resume) => self.resume(alloc, world, today, resume),
+            Command::Block(block) => self.block(alloc, world, today, block),
+            Command::Bill(bill) => self.bill(world, today, bill),
+            Command::Charge(charge) => self.charge(world, today, charge),
+            Command::Credit(credit) => self.credit(world, today, credit),
+            Command::Pay(pay) => self.pay(alloc, world, today, pay),
+            Command::Refund(refund) => self.refund(alloc, world, today, refund),
+            Command::Chargeback(chargeback) => self.chargeback(alloc, world, today, chargeback),
+            Command::Autopay(autopay) => self.autopay(world, today, autopay),
+            Command::Auto(auto) => self.auto(alloc, world, today, auto),
+            Command::Settle(settle) => self.settle(alloc, world, today, settle),
+            Command::Overdue(overdue) => self.overdue(alloc, world, today, overdue),
+        }
+    }
+}
