@@ -1,12 +1,11 @@
 -- The key of an automatic payment is a name.
-use Rattle.std.proofs.Common.{◌≡◌, ℕ, zero, suc, ◌+◌, ◌<◌, ◌≤◌, ◌^◌, ◌%◌, ◌/◌, Bool, true, false, ◌&&◌, List, [], ◌∷◌, ◌++◌, length, codes}
-use Rattle.std.proofs.Common.{decimal, slice_index, EachIndex, nat_lt, nat_le, IsTrue, refl, sym, ap, ap₂, subst, ◌∙◌, arith, length-append, T}
+use Rattle.std.proofs.Common.{◌≡◌, ℕ, zero, suc, ◌+◌, ◌<◌, ◌≤◌, ◌^◌, ◌%◌, ◌/◌, Bool, true, ◌&&◌, List, [], ◌∷◌, ◌++◌, length, codes}
+use Rattle.std.proofs.Common.{decimal, slice_index, EachIndex, nat_lt, nat_le, IsTrue, refl, sym, ap₂, subst, ◌∙◌, arith, length-append}
 use Rattle.std.proofs.lemmas.Bool.Decides.{nat_tests}
 use Rattle.std.proofs.lemmas.List.Folds.{list_all-append}
 use Rattle.std.specs.Fmt.{IsBoundedDecimal}
 use Rattle.std.specs.List.{list_all}
-use Rattle.std.specs.Char.{is_ascii_alphanumeric}
-use Rattle.kb_days.specs.Names.{IsName, is_name, is_name_byte}
+use Rattle.kb_days.specs.Names.{IsName, is_name_byte}
 use Rattle.kb_days.specs.DateText.{date_text, civil_text, digits}
 use Rattle.kb_days.specs.Calendar.{month_of, day_of_month}
 use Rattle.kb_book.specs.Edits.{auto_key}

@@ -1,8 +1,8 @@
 -- The invoice whose automatic payment is due.
-use Rattle.std.proofs.Common.{◌≡◌, ℕ, ◌≤◌, Bool, true, false, Option, Some, None, IfSome, refl, subst, sym, arith}
+use Rattle.std.proofs.Common.{◌≡◌, ℕ, ◌≤◌, Bool, true, false, Option, Some, None, IfSome, sym}
 use Rattle.kb_credit.specs.InvoiceRows.{InvoicesValue}
 use Rattle.kb_payment.specs.PaymentSums.{PaymentsValue}
-use Rattle.kb_book.specs.Inner.{invoice_due, invoice_to_pay, may_be_paid}
+use Rattle.kb_book.specs.Inner.{invoice_due, may_be_paid}
 use Rattle.kb_laws.proofs.FreshKeys.{due_number}
 
 -- it has a number from 1 on

@@ -1,5 +1,5 @@
 -- What is kept of commands, as a map and as its entries.
-use Rattle.std.proofs.Common.{◌≡◌, ℕ, sym, ap, ◌∙◌, List, [], length, Option, Some, None}
+use Rattle.std.proofs.Common.{◌≡◌, ℕ, sym, ap, ◌∙◌, List, [], length, Option}
 use Rattle.std.specs.Cmp.Lexicographic.{nat_list_cmp_total}
 use Rattle.std.specs.FinMap.{FinMap, find, put, entries, get, insert, empty, len, len-empty, get-entries, entries-insert, len-entries}
 use Rattle.std.proofs.lemmas.List.{nil_from_length}

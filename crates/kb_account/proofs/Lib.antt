@@ -10,3 +10,4 @@ pub mod BegunNexts
 pub mod AllowedDues
 pub mod PreparedSteps
 pub mod OpenedBooks
+pub mod StateRows

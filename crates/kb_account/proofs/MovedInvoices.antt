@@ -1,9 +1,7 @@
 -- What moves on an invoice.
-use Rattle.std.proofs.Common.{◌≡◌, ℕ, zero, suc, ◌+◌, ◌-◌, ◌<◌, ◌≤◌, ℤ, refl, sym, ap, ◌∙◌, arith, nat_abs, length, List}
-use Rattle.kb_credit.specs.declared.row.Row.{Row}
-use Rattle.kb_credit.specs.Sizes.{size_of}
+use Rattle.std.proofs.Common.{◌≡◌, ℕ, zero, suc, ◌≤◌, ℤ, refl, arith}
 use Rattle.kb_credit.specs.InvoiceRows.{InvoicesValue}
-use Rattle.kb_credit.specs.InvoiceEdits.{paid_on, paid_at}
+use Rattle.kb_credit.specs.InvoiceEdits.{paid_on}
 use Rattle.kb_credit.proofs.GrownSizes.{payments-paid_at}
 use Rattle.kb_account.specs.Private.Moves.{with_moved}
 

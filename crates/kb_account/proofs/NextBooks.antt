@@ -1,8 +1,8 @@
 -- The book after an accepted command, as it is put together.
-use Rattle.std.proofs.Common.{◌≡◌, ℕ, zero, suc, ◌+◌, ◌*◌, ◌^◌, ◌≤◌, ◌<◌, Bool, true, false, List, [], ◌∷◌, ◌++◌, length, Option, Some, None}
-use Rattle.std.proofs.Common.{ℤ, pos, neg_ℤ, nat_abs, refl, sym, ap, ap₂, subst, ◌∙◌, arith, All, length-append, nat_lt}
+use Rattle.std.proofs.Common.{◌≡◌, ℕ, zero, suc, ◌+◌, ◌*◌, ◌^◌, ◌≤◌, Bool, true, false, List, [], ◌∷◌, ◌++◌, length, Option, Some, None}
+use Rattle.std.proofs.Common.{ℤ, refl, sym, ap, ◌∙◌, arith, All, nat_lt}
 use Rattle.std.proofs.lemmas.Int.{ints}
-use Rattle.std.proofs.lemmas.List.Elements.{All-nil, All-cons, All-head, All-tail, All-append}
+use Rattle.std.proofs.lemmas.List.Elements.{All-nil, All-cons, All-head, All-tail}
 use Rattle.kb_days.specs.Calendar.{first_day, charged_days}
 use Rattle.kb_sharing.specs.Sums.{sum_of}
 use Rattle.kb_credit.specs.declared.line.Line.{Line}

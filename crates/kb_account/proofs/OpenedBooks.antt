@@ -1,5 +1,5 @@
 -- The book of an account that is opened.
-use Rattle.std.proofs.Common.{◌≡◌, ℕ, List, [], Some, None, pos, refl, sym, ap, subst, ◌∙◌}
+use Rattle.std.proofs.Common.{◌≡◌, ℕ, List, [], None, pos, sym, ap, subst, ◌∙◌}
 use Rattle.std.specs.FinMap.{put}
 use Rattle.kb_sharing.specs.Keys.{by_words}
 use Rattle.kb_days.specs.Calendar.{first_day, charged_days}

@@ -1,15 +1,14 @@
 -- What a command on payments moves.
-use Rattle.std.proofs.Common.{◌≡◌, ℕ, ◌+◌, ◌^◌, ◌≤◌, ◌<◌, Bool, true, false, not, ◌&&◌, List, [], ◌∷◌, length, Option, Some, None, is_some}
+use Rattle.std.proofs.Common.{◌≡◌, ℕ, ◌^◌, ◌≤◌, ◌<◌, Bool, true, false, not, ◌&&◌, List, [], Option, Some, None, is_some}
 use Rattle.std.proofs.Common.{ℤ, pos, neg_ℤ, nat_abs, ◌+ℤ◌, ◌==◌, if◌then◌else◌, refl, sym, ap, subst, ◌∙◌, arith, IfSome, eq-eqb}
 use Rattle.std.proofs.lemmas.Int.{ints}
 use Rattle.kb_payment.specs.declared.attempt.Attempt.{Attempt}
-use Rattle.kb_payment.specs.declared.attempt.Kind.{Kind}
-use Rattle.kb_payment.specs.declared.attempt.Kind.TheVariants.{Purchase, Refund, Chargeback}
+use Rattle.kb_payment.specs.declared.attempt.Kind.TheVariants.{Refund, Chargeback}
 use Rattle.kb_payment.specs.declared.attempt.Status.{Status}
 use Rattle.kb_payment.specs.declared.attempt.Status.TheVariants.{Unknown, Success}
 use Rattle.kb_payment.specs.Attempts.{is_open, with_status}
 use Rattle.kb_payment.specs.PaymentSums.{PaymentsValue, attempt_of, with_attempt, paid_on, Moves}
-use Rattle.kb_payment.specs.PaymentEdits.{amount_of, purchase_of, purchased, give_back_of, given_back, refunded, charged_back}
+use Rattle.kb_payment.specs.PaymentEdits.{amount_of, purchase_of, purchased, give_back_of, refunded, charged_back}
 use Rattle.kb_payment.specs.PaymentEdits.{settled, give_back_fault}
 use Rattle.kb_payment.specs.SoundPayments.{ArePayments}
 use Rattle.kb_laws.proofs.PaidMoves.{put-moves, settle-moves, pays, nat_abs-pays, nat_abs-pos}

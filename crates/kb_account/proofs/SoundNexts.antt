@@ -1,10 +1,9 @@
 -- The book after an accepted command is sound.
-use Rattle.std.proofs.Common.{◌≡◌, ℕ, ◌+◌, ◌*◌, ◌^◌, ◌≤◌, List, ◌++◌, length, ℤ, nat_abs, sym, ap, subst, ◌∙◌, arith, All, None}
+use Rattle.std.proofs.Common.{◌≡◌, ℕ, ◌+◌, ◌^◌, ◌≤◌, ◌<◌, List, ◌++◌, length, nat_abs, ap, subst, ◌∙◌, arith, All, None}
 use Rattle.kb_days.specs.Calendar.{first_day, charged_days}
 use Rattle.kb_sharing.specs.Sums.{sum_of}
 use Rattle.kb_credit.specs.declared.line.Line.{Line}
 use Rattle.kb_credit.specs.Items.{amount_of}
-use Rattle.kb_credit.specs.Sizes.{size_of}
 use Rattle.kb_credit.proofs.SizeLaws.{nat_abs-sum_of}
 use Rattle.kb_payment.specs.PaymentSums.{PaymentsValue}
 use Rattle.kb_codec.specs.declared.command.Command.{Command}
@@ -31,7 +30,7 @@ moved-once old new moved has = (moved.invoice, moved.amount, has.small, has.by)
 -- a book that is the one after an accepted command is sound
 pub next-sound : (world : WorldValue) (book edited next : BookValue) (today : ℕ) (command : Command) (issue : Issue)
     (lines : List Line) (moved : Move) (answer : Answer)
-    → IsBook book → first_refusal (own_rows world book today command) ≡ None
+    → IsBook book → book.commands + 1 < 2 ^ 32 → first_refusal (own_rows world book today command) ≡ None
     → edited ≡ begun world book today command
     → HasMoved book.payments edited.payments moved
     → issue ≡ issue_over world edited first_day charged_days
@@ -39,9 +38,9 @@ pub next-sound : (world : WorldValue) (book edited next : BookValue) (today : �
     → All IsItemLine lines → length lines ≤ 2 ^ 25
     → accepted_over world book today command first_day charged_days ≡ (answer, next)
     → IsBook next
-next-sound world book edited next today command issue lines moved answer sound accepted edit has made all plain few is =
+next-sound world book edited next today command issue lines moved answer sound room accepted edit has made all plain few is =
     subst (λ (outcome : Outcome). IsBook outcome.1) is
-    (sound-accepted world book today command sound accepted small
+    (sound-accepted world book today command sound accepted room small
     (subst (λ (b : BookValue). MovesOnce book.payments b.payments) edit (moved-once book.payments edited.payments moved has)))
   where
     whole : lines ≡ (issue_over world (begun world book today command) first_day charged_days).lines ++ own_lines command

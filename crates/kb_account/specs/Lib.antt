@@ -1,2 +1,3 @@
 pub mod Prepares
 pub mod Private
+pub mod Sums

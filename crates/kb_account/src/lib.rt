@@ -18,6 +18,7 @@ mod key;
 mod next;
 mod state;
 mod step;
+mod view;
 mod world;
 
 use begun::{Begun, Move, later, move_on};
@@ -29,4 +30,5 @@ use kept::Kept;
 use key::key_of;
 pub use next::{Next, Prepared};
 use state::State;
+pub use view::{StateRow, Sums};
 pub use world::World;

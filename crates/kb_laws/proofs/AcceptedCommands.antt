@@ -1,6 +1,7 @@
 -- An accepted command leaves each day charged by what is due, invoices that total that, items that are only
 -- added, and credit in closed form.
-use Rattle.std.proofs.Common.{ℕ, List, Option, Some, None}
+use Rattle.std.proofs.Common.{ℕ, List, Option, Some, None, arith}
+use Rattle.std.proofs.lemmas.Int.{ints, clamps}
 use Rattle.kb_days.specs.Calendar.{first_day, charged_days}
 use Rattle.kb_codec.specs.declared.command.Command.{Command}
 use Rattle.kb_book.specs.Worlds.{WorldValue}
@@ -70,4 +71,4 @@ module _ (other world : WorldValue) (book : BookValue) (today : ℕ) (command : 
   even-accepted =
       even-keep world command (key_of command) outcome
       (after-even other world book (begun world book today command) (own_lines command) today sound billed
-      (begun-edited world book today command) sound.credited)
+      (begun-edited world book today command) (omega (arith, ints, clamps, sound.credited)))

@@ -71,7 +71,7 @@ paid-billed_rows payments invoices today lines =
     ∙ paid-levelled_rows (paid_from payments 1 rows)
 
 -- the credit before they are levelled is that of the invoices before
-credit-noted : (payments : PaymentsValue) (invoices : InvoicesValue) (today : ℕ) (lines : List Line)
+pub credit-noted : (payments : PaymentsValue) (invoices : InvoicesValue) (today : ℕ) (lines : List Line)
     → credit (with_paid payments (with_invoice invoices today lines)).rows ≡ credit invoices.rows
 credit-noted payments invoices today lines =
     sum_of-paid_from payments (λ (row : Row). row.adjusted) (λ row amount. refl) 1

@@ -23,3 +23,4 @@ pub mod SoundSteps
 pub mod PaidMoves
 pub mod SmallSums
 pub mod SoundCommands
+pub mod BoundedSums

@@ -1,7 +1,6 @@
 -- The book of a new account is sound and billed, and stays so as it is opened.
 use Rattle.std.proofs.Common.{◌≤◌, ℕ, Bool, List, pos, ◌≤ℤ◌, refl}
 use Rattle.std.proofs.Common.{arith}
-use Rattle.std.proofs.lemmas.Int.{ints}
 use Rattle.std.proofs.lemmas.List.Elements.{All-nil}
 use Rattle.kb_days.specs.Calendar.{first_day, charged_days}
 use Rattle.kb_credit.specs.declared.row.Row.{Row}
@@ -31,7 +30,9 @@ module _ (account currency : List ℕ) (bcd : ℕ) (autopay : Bool) where
     paid = omega arith;
     beside = omega arith;
     noted = refl;
-    credited = omega (arith, ints);
+    few = omega arith;
+    credited = refl;
+    owed = refl;
     levelled = All-nil (λ (row : Row). pos 0 ≤ℤ balance_of row);
     owned = All-nil (λ (entry : List ℕ × Attempt). IsOwned entry.0 entry.1);
     invoiced = All-nil (λ (entry : List ℕ × Attempt). entry.1.invoice ≤ 0);
@@ -54,7 +55,9 @@ module _ (account currency : List ℕ) (bcd : ℕ) (autopay : Bool) where
     paid = omega arith;
     beside = omega arith;
     noted = refl;
-    credited = omega (arith, ints);
+    few = omega arith;
+    credited = refl;
+    owed = refl;
     levelled = All-nil (λ (row : Row). pos 0 ≤ℤ balance_of row);
     owned = All-nil (λ (entry : List ℕ × Attempt). IsOwned entry.0 entry.1);
     invoiced = All-nil (λ (entry : List ℕ × Attempt). entry.1.invoice ≤ 0);

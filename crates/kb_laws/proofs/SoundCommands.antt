@@ -1,21 +1,16 @@
 -- An accepted command keeps what always holds of a book.
-use Rattle.std.proofs.Common.{◌≡◌, ℕ, ◌+◌, ◌*◌, ◌^◌, ◌≤◌, ◌<◌, T, List, ◌++◌, length, Option, Some, None}
-use Rattle.std.proofs.Common.{nat_abs, pos, ◌≤ℤ◌}
-use Rattle.std.proofs.lemmas.Int.{ints, clamps}
+use Rattle.std.proofs.Common.{◌≡◌, ℕ, ◌+◌, ◌*◌, ◌^◌, ◌≤◌, ◌<◌, List, ◌++◌, length, Option, Some, None}
+use Rattle.std.proofs.Common.{nat_abs}
 use Rattle.std.proofs.Common.{ap, arith, subst, sym}
-use Rattle.std.specs.FinMap.{is_sorted}
-use Rattle.kb_sharing.specs.Keys.{by_words}
 use Rattle.kb_sharing.specs.Sums.{sum_of}
-use Rattle.kb_sharing.proofs.MemberSums.{sum_of-append}
-use Rattle.kb_days.specs.Calendar.{first_day, charged_days, last_day}
+use Rattle.kb_days.specs.Calendar.{first_day, charged_days}
 use Rattle.kb_credit.specs.Items.{amount_of}
-use Rattle.kb_credit.specs.InvoiceRows.{InvoicesValue, credit}
+use Rattle.kb_credit.specs.InvoiceRows.{InvoicesValue}
 use Rattle.kb_credit.proofs.Integers.{nat_abs-add}
 use Rattle.kb_codec.specs.declared.command.Command.{Command}
 use Rattle.kb_book.specs.Worlds.{WorldValue}
 use Rattle.kb_book.specs.Issues.{Issue}
 use Rattle.kb_book.specs.Books.{BookValue}
-use Rattle.kb_book.specs.Dues.{facts_of}
 use Rattle.kb_book.specs.Edits.{begun}
 use Rattle.kb_book.specs.Rows.{first_refusal}
 use Rattle.kb_book.specs.Refusals.{own_rows}
@@ -23,16 +18,14 @@ use Rattle.kb_book.specs.Steps.{Outcome, key_of, keep, own_lines, accepted_over,
 use Rattle.kb_book.specs.Steps.{issue_over}
 use Rattle.kb_book.specs.Steps.{with_paid}
 use Rattle.kb_laws.specs.SoundBooks.{IsBook}
-use Rattle.kb_laws.specs.BilledBooks.{IsBilled}
-use Rattle.kb_laws.proofs.AcceptedPayments.{AreSound, first-none, payments-sound}
-use Rattle.kb_laws.proofs.BegunBooks.{begun-edited, subscription_count}
-use Rattle.kb_laws.proofs.BilledRows.{credit-billed_rows}
+use Rattle.kb_laws.proofs.AcceptedPayments.{AreSound, payments-sound}
+use Rattle.kb_laws.proofs.BegunBooks.{begun-edited}
 use Rattle.kb_laws.proofs.InvoicedAttempts.{invoiced-more, AreInvoiced}
 use Rattle.kb_laws.proofs.KeptTotals.{totals_size}
 use Rattle.kb_laws.proofs.PaidMoves.{MovesOnce}
 use Rattle.kb_laws.proofs.SmallSums.{paid_size, totals-billed_rows, paid-billed_rows, own-small}
 use Rattle.kb_laws.proofs.SoundSteps.{after-matched, after-below, after-issued, after-more, after-noted}
-use Rattle.kb_laws.proofs.SoundSteps.{after-levelled}
+use Rattle.kb_laws.proofs.SoundSteps.{after-levelled, after-credited, after-owed}
 
 -- a book that an answer is kept in is as sound as before
 sound-keep : (command : Command) (key : Option (List ℕ)) (outcome : Outcome) → IsBook outcome.1
@@ -46,7 +39,9 @@ sound-keep command (Some key) outcome sound = record {
   paid = sound.paid;
   beside = sound.beside;
   noted = sound.noted;
+  few = sound.few;
   credited = sound.credited;
+  owed = sound.owed;
   levelled = sound.levelled;
   owned = sound.owned;
   invoiced = sound.invoiced;
@@ -76,16 +71,8 @@ module _ (world : WorldValue) (book : BookValue) (today : ℕ) (command : Comman
       let same = ap nat_abs edit.beside in
       omega (arith, own, size, same, sound.beside, edit.commands)
 
-  -- no credit is owed
-  after-credited : pos 0 ≤ℤ credit after.invoices.rows
-  after-credited =
-      let edit = begun-edited world book today command in
-      let low : pos 0 ≤ℤ credit edited.invoices.rows =
-      subst (λ (invoices : InvoicesValue). pos 0 ≤ℤ credit invoices.rows) (sym edit.invoices) sound.credited in
-      let is = credit-billed_rows edited.payments edited.invoices today (issue.lines ++ own_lines command) low in
-      omega (arith, ints, clamps)
-
-  module _ (small : nat_abs (sum_of amount_of (issue.lines ++ own_lines command)) ≤ 2 ^ 55)
+  module _ (few : book.commands + 1 < 2 ^ 32)
+      (small : nat_abs (sum_of amount_of (issue.lines ++ own_lines command)) ≤ 2 ^ 55)
       (moves : MovesOnce book.payments edited.payments) where
     -- no sum grows by more than one command may add to it
     after-totals : totals_size after.invoices ≤ 2 ^ 55 * after.commands
@@ -121,7 +108,9 @@ module _ (world : WorldValue) (book : BookValue) (today : ℕ) (command : Comman
           paid = after-paid;
           beside = after-beside;
           noted = after-noted world book edited (own_lines command) today sound edit;
-          credited = after-credited;
+          few = omega (arith, few, edit.commands);
+          credited = after-credited world book edited (own_lines command) today sound edit;
+          owed = after-owed world book edited (own_lines command) today sound edit;
           levelled = after-levelled world book edited (own_lines command) today sound edit;
           owned = edited-sound.0;
           invoiced =

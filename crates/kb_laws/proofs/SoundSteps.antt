@@ -1,13 +1,16 @@
 -- What an edited book that is billed keeps of what always holds of a book.
-use Rattle.std.proofs.Common.{◌≡◌, ℕ, ◌+◌, ◌≤◌, List, ◌++◌, length, All, pos, ◌≤ℤ◌, ap}
+use Rattle.std.proofs.Common.{◌≡◌, ℕ, ◌+◌, ◌≤◌, List, ◌++◌, length, All, pos, ◌≤ℤ◌, ◌-ℤ◌, sym, ap, ap₂}
 use Rattle.std.proofs.Common.{◌∙◌, arith}
 use Rattle.std.proofs.Common.{length-append}
+use Rattle.std.proofs.lemmas.Int.{ints, clamps}
 use Rattle.std.proofs.lemmas.List.Elements.{All-weaker}
+use Rattle.std.specs.Int.{int_max}
 use Rattle.kb_days.specs.Calendar.{first_day, charged_days}
 use Rattle.kb_credit.specs.declared.row.Row.{Row}
 use Rattle.kb_credit.specs.declared.line.Line.{Line}
-use Rattle.kb_credit.specs.InvoiceRows.{InvoicesValue, balance_of}
-use Rattle.kb_credit.proofs.ClosedForm.{All-AreWhole, AreWhole-levelled_rows}
+use Rattle.kb_credit.specs.InvoiceRows.{InvoicesValue, balance_of, charged, paid, credit, unpaid}
+use Rattle.kb_credit.proofs.ClosedForm.{All-AreWhole, AreWhole-levelled_rows, charged-levelled_rows}
+use Rattle.kb_credit.proofs.ClosedForm.{paid-levelled_rows, credit-levelled_rows, unpaid-levelled}
 use Rattle.kb_billing.specs.Numbers.{AreBelow}
 use Rattle.kb_book.specs.Worlds.{WorldValue}
 use Rattle.kb_book.specs.Issues.{Issue}
@@ -17,7 +20,7 @@ use Rattle.kb_book.specs.Steps.{issue_over, billed_with, with_paid, with_invoice
 use Rattle.kb_laws.specs.SoundBooks.{IsBook}
 use Rattle.kb_laws.proofs.IssuedCharges.{issue-length}
 use Rattle.kb_laws.proofs.BelowIssues.{issue-below, billed_rows-count}
-use Rattle.kb_laws.proofs.BilledRows.{billed_rows-noted}
+use Rattle.kb_laws.proofs.BilledRows.{billed_rows-noted, credit-noted}
 use Rattle.kb_laws.proofs.KeptTotals.{billed_rows-few}
 use Rattle.kb_laws.proofs.ChargedSubscriptions.{AreBelow-higher}
 use Rattle.kb_laws.proofs.BegunBooks.{IsEdited, subscription_count}
@@ -77,3 +80,26 @@ module _ (world : WorldValue) (book edited : BookValue) (own : List Line) (today
   after-levelled =
       let made = with_paid edited.payments (with_invoice edited.invoices today (issue.lines ++ own)) in
       All-AreWhole after.invoices.rows (AreWhole-levelled_rows made.rows)
+
+  -- no credit was owed
+  least : pos 0 ≤ℤ credit (with_paid edited.payments (with_invoice edited.invoices today (issue.lines ++ own))).rows
+  least =
+      let same = credit-noted edited.payments edited.invoices today (issue.lines ++ own) in
+      let before = ap (λ (invoices : InvoicesValue). credit invoices.rows) edit.invoices in
+      omega (arith, ints, clamps, same, before, sound.credited)
+
+  -- credit is by how much payments exceed totals
+  pub after-credited : credit after.invoices.rows
+      ≡ int_max (pos 0) (paid after.invoices.rows -ℤ charged after.invoices.rows)
+  after-credited =
+      let rows = (with_paid edited.payments (with_invoice edited.invoices today (issue.lines ++ own))).rows in
+      credit-levelled_rows rows least
+      ∙ ap₂ (λ a b. int_max (pos 0) (a -ℤ b)) (sym (paid-levelled_rows rows)) (sym (charged-levelled_rows rows))
+
+  -- and what is unpaid the reverse
+  pub after-owed : unpaid after.invoices.rows
+      ≡ int_max (pos 0) (charged after.invoices.rows -ℤ paid after.invoices.rows)
+  after-owed =
+      let rows = (with_paid edited.payments (with_invoice edited.invoices today (issue.lines ++ own))).rows in
+      unpaid-levelled rows least
+      ∙ ap₂ (λ a b. int_max (pos 0) (a -ℤ b)) (sym (charged-levelled_rows rows)) (sym (paid-levelled_rows rows))

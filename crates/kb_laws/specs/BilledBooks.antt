@@ -3,7 +3,7 @@ use Rattle.std.specs.Prelude.{ℕ, ◌+◌, ◌≡◌, List, [], ◌∷◌, All,
 use Rattle.std.specs.Int.{int_max}
 use Rattle.kb_days.specs.Calendar.{first_day, charged_days}
 use Rattle.kb_credit.specs.declared.row.Row.{Row}
-use Rattle.kb_credit.specs.InvoiceRows.{charged, paid, credit, unpaid}
+use Rattle.kb_credit.specs.InvoiceRows.{charged, credit, unpaid}
 use Rattle.kb_payment.specs.PaymentSums.{PaymentsValue, paid_on}
 use Rattle.kb_due.specs.declared.cell.Cell.{Cell}
 use Rattle.kb_due.specs.Facts.{FactsValue}

@@ -3,3 +3,4 @@ pub mod SoundBooks
 pub mod BilledBooks
 pub mod AddedItems
 pub mod NextDues
+pub mod BoundedSums

@@ -1,5 +1,5 @@
 -- The book of an account that is opened is what that command makes of a new one.
-use Rattle.std.proofs.Common.{◌≡◌, ℕ, List, [], sym, ap, subst, ◌∙◌}
+use Rattle.std.proofs.Common.{[], ap, ◌∙◌}
 use Rattle.std.specs.Arc.{arc_value}
 use Rattle.std.specs.FinMap.{put, entries}
 use Rattle.kb_sharing.specs.Keys.{by_words}
@@ -7,10 +7,6 @@ use Rattle.kb_codec.specs.declared.command.Command.{Command}
 use Rattle.kb_codec.specs.declared.command.Command.TheVariants as kinds
 use Rattle.kb_codec.specs.Commands.{spelling}
 use Rattle.kb_book.specs.declared.answer.Answer.{Answer}
-use Rattle.kb_book.specs.Worlds.{WorldValue}
-use Rattle.kb_book.specs.Books.{BookValue}
-use Rattle.kb_book.specs.Steps.{Outcome}
-use Rattle.kb_laws.specs.SoundBooks.{IsBook}
 use Rattle.kb_account.proofs.OpenedBooks.{opened-is, opened-command, opened-days, opened-credit, opened-told}
 use Rattle.kb_account.proofs.OpenedBooks.{opened-sound_book}
 use Rattle.kb_account.proofs.book.opened.Goals as goal

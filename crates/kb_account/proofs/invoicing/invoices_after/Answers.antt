@@ -1,5 +1,5 @@
 -- Nothing is paid on a new invoice.
-use Rattle.std.proofs.Common.{◌≡◌, ap, arith}
+use Rattle.std.proofs.Common.{ap, arith}
 use Rattle.kb_credit.specs.InvoiceRows.{InvoicesValue}
 use Rattle.kb_credit.specs.Sizes.{size_of}
 use Rattle.kb_credit.specs.declared.row.Row.{Row}

@@ -1,8 +1,8 @@
 -- What moves, levelled.
-use Rattle.std.proofs.Common.{◌≡◌, ap, sym, ◌∙◌, arith, rules, pos}
+use Rattle.std.proofs.Common.{◌≡◌, ap, sym, ◌∙◌, arith, rules}
 use Rattle.kb_credit.specs.InvoiceEdits.{levelled, paid_on}
 use Rattle.kb_credit.specs.InvoiceRows.{InvoicesValue}
-use Rattle.kb_account.proofs.MovedInvoices.{moved_some, moved_none}
+use Rattle.kb_account.proofs.MovedInvoices.{moved_some}
 use Rattle.kb_account.proofs.invoicing.moved_and_levelled.Goals as goal
 
 pub returns-clause-after : goal.returns-clause-after

@@ -1,10 +1,8 @@
 -- A step is refused, kept or accepted; and what an accepted one promises.
-use Rattle.std.proofs.Common.{◌≡◌, ℕ, List, Option, Some, None, Ok, sym, ap, subst, ◌∙◌}
-use Rattle.kb_days.specs.Calendar.{first_day, charged_days}
-use Rattle.kb_book.specs.Worlds.{WorldValue}
+use Rattle.std.proofs.Common.{◌≡◌, Ok, sym, subst, ◌∙◌}
 use Rattle.kb_book.specs.Books.{BookValue}
 use Rattle.kb_book.specs.Rows.{IsUnprepared}
-use Rattle.kb_book.specs.Steps.{Outcome, step, key_of, accepted_over}
+use Rattle.kb_book.specs.Steps.{Outcome, step}
 use Rattle.kb_laws.specs.BilledBooks.{IsBilled, IsEven}
 use Rattle.kb_laws.specs.AddedItems.{AddsFrom, GoOn}
 use Rattle.kb_laws.proofs.AcceptedCommands.{billed-accepted, adds-accepted-from, items-accepted, even-accepted}

@@ -1,21 +1,13 @@
 -- The book after an accepted command, and that it is sound.
-use Rattle.std.proofs.Common.{◌≡◌, ℕ, ◌+◌, ◌*◌, ◌^◌, ◌≤◌, ◌<◌, List, ◌++◌, length, All, sym, ap, subst, ◌∙◌, arith}
+use Rattle.std.proofs.Common.{◌≡◌, ◌++◌, sym, ap, ◌∙◌, arith}
 use Rattle.std.specs.FinMap.{entries}
-use Rattle.kb_sharing.specs.Sums.{sum_of}
 use Rattle.kb_days.specs.Calendar.{first_day, charged_days}
-use Rattle.kb_credit.specs.declared.line.Line.{Line}
-use Rattle.kb_credit.specs.Items.{amount_of, is_adjustment}
-use Rattle.kb_credit.specs.Sizes.{size_of}
-use Rattle.kb_credit.specs.InvoiceRows.{InvoicesValue, credit, unpaid}
+use Rattle.kb_credit.specs.InvoiceRows.{InvoicesValue}
 use Rattle.kb_credit.specs.InvoiceEdits.{levelled}
-use Rattle.kb_billing.specs.ItemLines.{IsItemLine}
-use Rattle.kb_book.specs.declared.answer.Answer.{Answer}
-use Rattle.kb_book.specs.Books.{BookValue, Keyed, Kept}
-use Rattle.kb_book.specs.Steps.{Outcome, own_lines, key_of, with_invoice, with_paid, number_of, accepted_over}
+use Rattle.kb_book.specs.Books.{BookValue}
+use Rattle.kb_book.specs.Steps.{own_lines, with_invoice, accepted_over}
 use Rattle.kb_account.specs.Private.States.{value_of}
 use Rattle.kb_account.specs.Private.Begins.{begun_of}
-use Rattle.kb_account.specs.Private.Moves.{with_move}
-use Rattle.kb_account.specs.Private.KeptAnswers.{kept_after}
 use Rattle.kb_account.proofs.BegunNexts.{begun-matched, begun-below, all-plain, all-few, all-small, all-room}
 use Rattle.kb_account.proofs.NextBooks.{next-is, move-noted, lines-plain}
 use Rattle.kb_account.proofs.SoundNexts.{next-sound}
@@ -93,7 +85,7 @@ invariant_of-result c =
     next-sound c.args.world.now book (begun_of book c.args.edit) (value_of c.next_state-state.result) c.args.today
     c.args.command.now
     (record { lines = c.in_ok-issue.issue.lines.items; charges = c.in_ok-issue.issue.charges.items }) told
-    c.args.edit.moved c.answer-answer.result c.requires.sound c.requires.accepted c.requires.begun
+    c.args.edit.moved c.answer-answer.result c.requires.sound (omega (arith, c.requires.few)) c.requires.accepted c.requires.begun
     c.requires.edit.moved c.in_ok-issue.ensures.issue whole plain few (is_next c)
 
 pub returns : goal.returns

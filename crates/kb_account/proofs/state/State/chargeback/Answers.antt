@@ -1,5 +1,5 @@
 -- A chargeback moves its amount off the invoice of the purchase.
-use Rattle.std.proofs.Common.{◌≡◌, ◌≤◌, length, arith, ap, sym, subst}
+use Rattle.std.proofs.Common.{length, arith, ap, sym, subst}
 use Rattle.std.proofs.lemmas.Int.{ints}
 use Rattle.std.specs.Arc.{arc_value}
 use Rattle.kb_account.specs.declared.begun.Move.{Move}

@@ -1,7 +1,6 @@
 -- What is due has a key of which there is no attempt yet, and moves nothing.
-use Rattle.std.proofs.Common.{◌≡◌, ◌<◌, ◌^◌, ℕ, List, Option, None, true, length, arith, sym, ap, subst, ◌∙◌, refl}
+use Rattle.std.proofs.Common.{◌≡◌, ℕ, List, None, true, arith, ap, ◌∙◌, refl}
 use Rattle.std.specs.Arc.{arc_value}
-use Rattle.kb_payment.specs.declared.attempt.Attempt.{Attempt}
 use Rattle.kb_payment.specs.PaymentSums.{PaymentsValue, attempt_of}
 use Rattle.kb_payment.specs.PaymentEdits.{purchase_of, amount_of, purchased}
 use Rattle.kb_book.specs.Edits.{auto_key}

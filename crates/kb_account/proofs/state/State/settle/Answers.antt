@@ -1,5 +1,5 @@
 -- A settlement moves what it says on the invoice of the attempt.
-use Rattle.std.proofs.Common.{◌≡◌, ◌≤◌, length, arith, ap, sym, subst, ◌∙◌, ℤ}
+use Rattle.std.proofs.Common.{length, arith, ap, sym, subst, ◌∙◌, ℤ}
 use Rattle.std.proofs.lemmas.Int.{ints}
 use Rattle.std.specs.Arc.{arc_value}
 use Rattle.kb_account.specs.declared.begun.Move.{Move}
