@@ -11,3 +11,4 @@ pub mod AllowedDues
 pub mod PreparedSteps
 pub mod OpenedBooks
 pub mod StateRows
+pub mod ShownItems

@@ -1,3 +1,4 @@
 pub mod Prepares
 pub mod Private
 pub mod Sums
+pub mod Views

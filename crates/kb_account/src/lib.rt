@@ -16,6 +16,7 @@ mod invoicing;
 mod kept;
 mod key;
 mod next;
+mod query;
 mod state;
 mod step;
 mod view;
@@ -29,6 +30,9 @@ use invoicing::invoices_after;
 use kept::Kept;
 use key::key_of;
 pub use next::{Next, Prepared};
+pub use query::Query;
 use state::State;
-pub use view::{StateRow, Sums};
+pub use view::{
+    AccountView, InvoiceView, ItemView, PaymentView, StateRow, SubscriptionView, Sums, View,
+};
 pub use world::World;

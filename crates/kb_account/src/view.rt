@@ -1,7 +1,67 @@
 //! What an account tells of itself.
+ghost use Rattle.std.specs.Prelude.{◌≡◌, Ok, IfOk, IfErr};
+ghost use Rattle.kb_book.specs.Rows.{IsUnprepared};
+ghost use Rattle.kb_account.specs.Views.{answer_to, refusal_to};
 
+mod account;
+mod invoice;
+mod payment;
 mod states;
+mod subscription;
 mod sums;
 
+use crate::{Book, Query, World};
+pub use account::AccountView;
+pub use invoice::{InvoiceView, ItemView};
+use kb_book::{Refusal, Unprepared};
+use kb_days::Day;
+use kb_terms::asked_day;
+pub use payment::PaymentView;
 pub use states::StateRow;
+use std::alloc::Global;
+pub use subscription::SubscriptionView;
 pub use sums::Sums;
+
+/// The answer to a query.
+#[derive(Drop)]
+pub enum View {
+    Account(AccountView),
+    Invoice(InvoiceView),
+    Payment(PaymentView),
+    Subscription(SubscriptionView),
+}
+
+impl Book {
+    /// The answer to a query on a day. Refused if there is no such invoice (`NoInvoice`), no such payment
+    /// (`NoPayment`), or no such subscription (`NoSubscription`).
+    pub fn view(
+        &self,
+        alloc: Global,
+        world: &World,
+        today: Day,
+        query: &Query,
+    ) -> Result<View, Unprepared>
+        ensures shown { IfOk result (λ view. answer_to world.now self.now today query.now ≡ Ok view) }
+        ensures refused { IfErr result (IsUnprepared (refusal_to (answer_to world.now self.now today query.now))) }
+    {
+        let state = &self.state;
+        match *query {
+            Query::Account(_) => Ok(View::Account(state.account_view())),
+            Query::Invoice(_, invoice) => match state.invoice_view(alloc, invoice)? {
+                Some(view) => Ok(View::Invoice(view)),
+                None => Err(Unprepared::Refused(Refusal::NoInvoice)),
+            },
+            Query::Payment(_, payment) => match state.payment_view(payment) {
+                Some(view) => Ok(View::Payment(view)),
+                None => Err(Unprepared::Refused(Refusal::NoPayment)),
+            },
+            Query::Subscription(_, name, day) => {
+                let day = asked_day(day, today);
+                match state.subscription_view(alloc, world, day, name)? {
+                    Some(view) => Ok(View::Subscription(view)),
+                    None => Err(Unprepared::Refused(Refusal::NoSubscription)),
+                }
+            }
+        }
+    }
+}

@@ -26,7 +26,7 @@ pub use due::{invoice_due, is_transition_due, overdue_state};
 use entry::some_plan;
 pub use pauses::{pause, resume};
 pub use payments::{chargeback, pay, pay_automatically, refund};
-use places::place_of;
+pub use places::place_of;
 pub use settlements::settle;
 pub use starts::start;
 pub use states::enter_state;

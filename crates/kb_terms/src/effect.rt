@@ -81,7 +81,7 @@ fn later_of(day: Reach, other: Option<Reach>) -> Reach
 }
 
 /// Until when the subscription at a place is charged at a billed date, if it is.
-fn through_of(
+pub fn through_of(
     alloc: Global,
     facts: &Facts,
     sub: u32,

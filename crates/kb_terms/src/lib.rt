@@ -19,7 +19,7 @@ pub use anchor::{change_anchor, create_anchor};
 pub use bundle::{breaks_bundle, is_add_on, is_over, may_join};
 use category::category_in;
 pub use category::category_on;
-pub use effect::{cancel_effect, change_effect};
+pub use effect::{cancel_effect, change_effect, through_of};
 pub use plan::{plan_asked, version_on};
 use policy::{cancel_policy, change_policy, governing_ask, governing_of, wish_ask};
 pub use price::refers_to_lacking;

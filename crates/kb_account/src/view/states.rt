@@ -55,7 +55,7 @@ fn state_row(facts: &Facts, sub: u32, day: Day) -> StateRow
 }
 
 /// The name of the bundle at a place.
-fn bundle_name(timeline: &Timeline, place: u32) -> Name
+pub(crate) fn bundle_name(timeline: &Timeline, place: u32) -> Name
     requires there { place < length timeline.now.bundles }
     ensures { result ≡ bundle_at timeline.now.bundles place }
 {
