@@ -1,0 +1,191 @@
+//! Rows, played on a book.
+
+use crate::script::{bytes_of, today_of};
+use kb_account::{Book, Prepared, World};
+use kb_book::{Answer, Refusal, Unprepared};
+use kb_catalog_text::read_overdue;
+use kb_codec::{Command, decode};
+use kb_days::Day;
+use kb_overdue::Config;
+use kb_samples::{SHOP, catalog, day};
+use std::alloc::Global;
+use std::process::Abort;
+use std::test::Fail;
+
+/// Overdue rules without a state.
+pub(crate) const NO_STATES: &str = "state = []";
+
+/// A line of a row, and what is told of it: number, invoice, total, credit and unpaid, with `-` for no invoice;
+/// the same behind `kept`; or the refusal. The line `due` is what is due by itself.
+pub(crate) type Line = (&'static str, &'static str);
+
+/// A name, the overdue rules, the line that opens the account, and later ones.
+pub(crate) type Row = (&'static str, &'static str, &'static str, &'static [Line]);
+
+/// Holds what is told of each line against the row's.
+pub(crate) fn play_all(rt: &impl Abort, alloc: Global, rows: &[Row]) -> Result<(), Fail> {
+    for row in rows {
+        play_row(rt, alloc, row)?;
+    }
+    Ok(())
+}
+
+// What owns much is let go in one place of a function each: every place is proved.
+fn play_row(rt: &impl Abort, alloc: Global, row: &Row) -> Result<(), Fail> {
+    let world = world_of(alloc, row.1)?;
+    play(rt, alloc, &world, row)
+}
+
+fn world_of(alloc: Global, overdue: &str) -> Result<World, Fail> {
+    Ok(World {
+        overdue: overdue_of(alloc, overdue)?,
+        catalog: catalog(alloc, &[SHOP])?,
+    })
+}
+
+fn overdue_of(alloc: Global, text: &str) -> Result<Config, Fail> {
+    match read_overdue(alloc, text.as_bytes().to_vec(alloc)?) {
+        Ok(checked) => Ok(checked.into_parts().1),
+        Err(_) => Err("an overdue text".into()),
+    }
+}
+
+fn play(rt: &impl Abort, alloc: Global, world: &World, row: &Row) -> Result<(), Fail> {
+    let mut book = opened(alloc, row.2)?;
+    play_on(rt, alloc, world, &mut book, row)
+}
+
+fn play_on(
+    rt: &impl Abort,
+    alloc: Global,
+    world: &World,
+    book: &mut Book,
+    row: &Row,
+) -> Result<(), Fail> {
+    let (name, _, _, lines) = *row;
+    let mut today = day("2024-01-01")?;
+    for (number, (line, answer)) in lines.iter().enumerate() {
+        today = today_of(line).unwrap_or(today);
+        let told = after(alloc, world, book, today, line, number)?;
+        assert_eq!(rt; told.as_str(), *answer, "{name}: {line}");
+    }
+    Ok(())
+}
+
+/// The book that a line opens.
+fn opened(alloc: Global, line: &str) -> Result<Book, Fail> {
+    let command = decode(alloc, &bytes_of(alloc, line, 0)?)?.ok_or("a command")?;
+    first_of(alloc, &command)
+}
+
+fn first_of(alloc: Global, command: &Command) -> Result<Book, Fail> {
+    match command {
+        Command::OpenAccount(_) => Ok(Book::first(alloc, command)?.0),
+        _ => Err("an opening".into()),
+    }
+}
+
+/// What is told of a line, and the book after it.
+fn after(
+    alloc: Global,
+    world: &World,
+    book: &mut Book,
+    today: Day,
+    line: &str,
+    number: usize,
+) -> Result<String, Fail> {
+    let Some(command) = command_of(alloc, world, book, today, line, number)? else {
+        return Ok(String::from_str(alloc, "nothing")?);
+    };
+    answered(alloc, world, book, today, &command)
+}
+
+fn answered(
+    alloc: Global,
+    world: &World,
+    book: &mut Book,
+    today: Day,
+    command: &Command,
+) -> Result<String, Fail> {
+    match book.prepare(alloc, world, today, command) {
+        Ok(Prepared::Next(next)) => answer_told(alloc, "", book.commit(next)),
+        Ok(Prepared::Kept(answer)) => answer_told(alloc, "kept ", answer),
+        Err(fault) => refusal_told(alloc, fault),
+    }
+}
+
+/// What is due by itself.
+fn due(world: &World, book: &Book, today: Day) -> Option<Command> {
+    book.due_next(world, today)
+}
+
+/// The command of a line; none if nothing is due, or it is no command.
+fn command_of(
+    alloc: Global,
+    world: &World,
+    book: &Book,
+    today: Day,
+    line: &str,
+    number: usize,
+) -> Result<Option<Command>, Fail> {
+    if line == "due" {
+        Ok(due(world, book, today))
+    } else {
+        Ok(decode(alloc, &bytes_of(alloc, line, number)?)?)
+    }
+}
+
+fn answer_told(alloc: Global, before: &str, answer: Answer) -> Result<String, Fail> {
+    let Answer {
+        command,
+        invoice,
+        total,
+        credit,
+        unpaid,
+    } = answer;
+    match invoice {
+        None => Ok(format!(in alloc; "{before}{command} - {total} {credit} {unpaid}")?),
+        Some(number) => {
+            Ok(format!(in alloc; "{before}{command} {number} {total} {credit} {unpaid}")?)
+        }
+    }
+}
+
+fn refusal_told(alloc: Global, fault: Unprepared) -> Result<String, Fail> {
+    match fault {
+        Unprepared::NoMemory => Err("memory".into()),
+        Unprepared::Refused(Refusal::Limit { which, limit }) => {
+            Ok(format!(in alloc; "refused Limit {which} {limit}")?)
+        }
+        Unprepared::Refused(refusal) => {
+            let name = name_of(refusal);
+            Ok(format!(in alloc; "refused {name}")?)
+        }
+    }
+}
+
+/// The name of a refusal, of those that rows tell.
+fn name_of(refusal: Refusal) -> &'static str {
+    match refusal {
+        Refusal::AccountExists => "AccountExists",
+        Refusal::NoCatalog => "NoCatalog",
+        Refusal::NoPlan => "NoPlan",
+        Refusal::NoPrice => "NoPrice",
+        Refusal::SubscriptionExists => "SubscriptionExists",
+        Refusal::NoSubscription => "NoSubscription",
+        Refusal::BundleRule => "BundleRule",
+        Refusal::BeforeStart => "BeforeStart",
+        Refusal::Cancelled => "Cancelled",
+        Refusal::NotCancelled => "NotCancelled",
+        Refusal::ChangeBlocked => "ChangeBlocked",
+        Refusal::PolicyIllegal => "PolicyIllegal",
+        Refusal::KeyReused => "KeyReused",
+        Refusal::NoInvoice => "NoInvoice",
+        Refusal::NothingDue => "NothingDue",
+        Refusal::AttemptOpen => "AttemptOpen",
+        Refusal::NoPayment => "NoPayment",
+        Refusal::PaymentState => "PaymentState",
+        Refusal::AmountTooLarge => "AmountTooLarge",
+        _ => "another one",
+    }
+}
