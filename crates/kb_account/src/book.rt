@@ -148,8 +148,8 @@ impl Book {
 }
 
 /// The book of an account that is opened.
-fn opened(alloc: Global, command: &Command, open: &OpenAccount) -> Result<(Book, Answer), NoMemory>
-    requires opening { command.now ≡ Command.OpenAccount open.now }
+fn opened(alloc: Global, command: &Command, asked: &OpenAccount) -> Result<(Book, Answer), NoMemory>
+    requires opening { command.now ≡ Command.OpenAccount asked.now }
     ensures first { IfOk result (λ first. (world : WorldValue) (today : ℕ)
         → told.accepted_over world (opening_book command.now) today command.now first_day charged_days
         ≡ (first.1, first.0)) }
@@ -157,7 +157,7 @@ fn opened(alloc: Global, command: &Command, open: &OpenAccount) -> Result<(Book,
     ensures even { IfOk result (λ first. (world : WorldValue) → IsEven world first.0) }
 {
     let answer = first_answer();
-    let kept = first_kept(alloc, command, open.key, answer)?;
+    let kept = first_kept(alloc, command, asked.key, answer)?;
     let no_timeline = Timeline::new(alloc);
     let no_blocks = Blocks::new(alloc);
     let no_payments = Payments::new(alloc);
@@ -167,10 +167,10 @@ fn opened(alloc: Global, command: &Command, open: &OpenAccount) -> Result<(Book,
     let invoices = Invoices::new(alloc);
     let charges = Vec::new(alloc);
     let state = State {
-        account: open.account,
-        currency: open.currency,
-        bcd: open.bcd,
-        autopay: open.autopay,
+        account: asked.account,
+        currency: asked.currency,
+        bcd: asked.bcd,
+        autopay: asked.autopay,
         timeline,
         blocks,
         billed: None,

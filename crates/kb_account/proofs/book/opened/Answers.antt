@@ -13,7 +13,7 @@ use Rattle.kb_account.proofs.book.opened.Goals as goal
 
 pub returns : goal.returns
 returns c =
-    let opening = c.args.open.now in
+    let opening = c.args.asked.now in
     let kept = c.in_ok-kept.ensures
     ∙ ap (λ (asked : Command). put by_words opening.key
     (record { spelling = spelling asked; answer = c.first_answer-answer.result }) [])
@@ -34,7 +34,7 @@ returns c =
 
 pub invariant_of-result : goal.invariant_of-result
 invariant_of-result c =
-    let opening = c.args.open.now in
+    let opening = c.args.asked.now in
     let kept = c.in_ok-kept.ensures
     ∙ ap (λ (asked : Command). put by_words opening.key
     (record { spelling = spelling asked; answer = c.first_answer-answer.result }) [])
