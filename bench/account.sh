@@ -113,6 +113,7 @@ fn time(
     }
 }
 
+/// The calls are all the same, so none is timed unless one, and so each, is prepared as a new command.
 fn time_runs(
     rt: &HostRuntime,
     world: &World,
