@@ -79,12 +79,11 @@ impl Book {
             ≡ Ok (prepared_outcome self.now prepared)) }
         ensures kept { IfOk result (λ prepared. is_kept prepared ≡ is_kept_command self.now command.now) }
         ensures refused { IfErr result (IsUnprepared (refusal_by (told.step world.now self.now today command.now))) }
-        ensures billed { IfOk result (λ prepared. (other : WorldValue) → IsBilled other self.now
-            → IfNew (λ book answer. IsBilled world.now book) prepared) }
+        ensures billed { IfOk result (λ prepared. IfNew (λ book answer. IsBilled world.now book) prepared) }
+        ensures even { IfOk result (λ prepared. IfNew (λ book answer. IsEven world.now book) prepared) }
         ensures added { IfOk result (λ prepared. (other : WorldValue) → IsBilled other self.now
-            → IfNew (λ book answer. AddsFrom other world.now self.now book × GoOn self.now book) prepared) }
-        ensures even { IfOk result (λ prepared. (other : WorldValue) → IsBilled other self.now
-            → IfNew (λ book answer. IsEven world.now book) prepared) }
+            → IfNew (λ book answer. AddsFrom other world.now self.now book) prepared) }
+        ensures behind { IfOk result (λ prepared. IfNew (λ book answer. GoOn self.now book) prepared) }
         ensures repeated { IfOk result (λ prepared. (key : List ℕ) → told.key_of command.now ≡ Some key
             → IfNew (λ book answer. (other : WorldValue) (tomorrow : ℕ)
             → told.step other book tomorrow command.now ≡ Ok (answer, book)) prepared) }

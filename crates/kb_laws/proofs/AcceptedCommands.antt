@@ -37,38 +37,39 @@ items-keep : (book : BookValue) (command : Command) (key : Option (List ℕ)) (o
 items-keep book command None outcome more = more
 items-keep book command (Some key) outcome more = more
 
-module _ (other world : WorldValue) (book : BookValue) (today : ℕ) (command : Command) (sound : IsBook book)
-    (billed : IsBilled other book) where
-  -- the answer and the book, before the answer is kept
-  abbrev outcome : Outcome
-  outcome = billed_outcome (begun world book today command) today
-      (issue_over world (begun world book today command) first_day charged_days) (own_lines command)
+module _ (world : WorldValue) (book : BookValue) (today : ℕ) (command : Command) (sound : IsBook book) where
+  -- the edited book, and the answer and the book before the answer is kept
+  abbrev edited : BookValue
+  edited = begun world book today command
 
-  -- a book that was billed, by these texts or by earlier ones, is billed after an accepted command
+  abbrev outcome : Outcome
+  outcome = billed_outcome edited today (issue_over world edited first_day charged_days) (own_lines command)
+
+  -- the book is billed after an accepted command
   pub billed-accepted : IsBilled world (accepted_over world book today command first_day charged_days).1
   billed-accepted =
       billed-keep world command (key_of command) outcome
-      (after-billed other world book (begun world book today command) (own_lines command) today sound billed
+      (after-billed sound.billed.0 world book edited (own_lines command) today sound sound.billed.1
       (begun-edited world book today command))
 
   -- its items are only added, and only on days whose cell changes
-  pub adds-accepted-from : AddsFrom other world book
-      (accepted_over world book today command first_day charged_days).1
-  adds-accepted-from =
+  pub adds-accepted-from : (other : WorldValue) → IsBilled other book
+      → AddsFrom other world book (accepted_over world book today command first_day charged_days).1
+  adds-accepted-from other billed =
       adds-keep other world book command (key_of command) outcome
-      (after-added other world book (begun world book today command) (own_lines command) today sound billed
+      (after-added other world book edited (own_lines command) today sound billed
       (begun-edited world book today command))
 
   -- so are those of its invoices
   pub items-accepted : GoOn book (accepted_over world book today command first_day charged_days).1
   items-accepted =
       items-keep book command (key_of command) outcome
-      (after-items other world book (begun world book today command) (own_lines command) today sound billed
+      (after-items sound.billed.0 world book edited (own_lines command) today sound sound.billed.1
       (begun-edited world book today command))
 
   -- credit is by how much payments exceed charges, and the reverse
   pub even-accepted : IsEven world (accepted_over world book today command first_day charged_days).1
   even-accepted =
       even-keep world command (key_of command) outcome
-      (after-even other world book (begun world book today command) (own_lines command) today sound billed
+      (after-even sound.billed.0 world book edited (own_lines command) today sound sound.billed.1
       (begun-edited world book today command) (omega (arith, ints, clamps, sound.credited)))

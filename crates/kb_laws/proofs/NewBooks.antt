@@ -21,51 +21,29 @@ module _ (account currency : List ℕ) (bcd : ℕ) (autopay : Bool) where
   abbrev opening : BookValue
   opening = new_book account currency bcd autopay
 
-  pub new_book-sound : IsBook opening
-  new_book-sound = record {
-    matched = refl;
-    below = All-nil (AreBelow 1);
-    issued = omega arith;
-    totals = omega arith;
-    paid = omega arith;
-    beside = omega arith;
-    noted = refl;
-    few = omega arith;
-    credited = refl;
-    owed = refl;
-    levelled = All-nil (λ (row : Row). pos 0 ≤ℤ balance_of row);
-    owned = All-nil (λ (entry : List ℕ × Attempt). IsOwned entry.0 entry.1);
-    invoiced = All-nil (λ (entry : List ℕ × Attempt). entry.1.invoice ≤ 0);
-  }
-
-  pub new_book-billed : (world : WorldValue) → IsBilled world opening
-  new_book-billed world = record { days = tt; totals = refl }
-
-  pub new_book-even : (world : WorldValue) → IsEven world opening
-  new_book-even world = record { credit = refl; unpaid = refl }
-
   -- once it is opened
-  pub opened-sound : (world : WorldValue) (today : ℕ) (c : OpenAccount)
-      → IsBook (accepted_over world opening today (kinds.OpenAccount c) first_day charged_days).1
-  opened-sound world today c = record {
-    matched = refl;
-    below = All-nil (AreBelow 1);
-    issued = omega arith;
-    totals = omega arith;
-    paid = omega arith;
-    beside = omega arith;
-    noted = refl;
-    few = omega arith;
-    credited = refl;
-    owed = refl;
-    levelled = All-nil (λ (row : Row). pos 0 ≤ℤ balance_of row);
-    owned = All-nil (λ (entry : List ℕ × Attempt). IsOwned entry.0 entry.1);
-    invoiced = All-nil (λ (entry : List ℕ × Attempt). entry.1.invoice ≤ 0);
-  }
-
   pub opened-billed : (world : WorldValue) (today : ℕ) (c : OpenAccount)
       → IsBilled world (accepted_over world opening today (kinds.OpenAccount c) first_day charged_days).1
   opened-billed world today c = record { days = tt; totals = refl }
+
+  pub opened-sound : (world : WorldValue) (today : ℕ) (c : OpenAccount)
+      → IsBook (accepted_over world opening today (kinds.OpenAccount c) first_day charged_days).1
+  opened-sound world today c = record {
+    billed = (world, opened-billed world today c);
+    matched = refl;
+    below = All-nil (AreBelow 1);
+    issued = omega arith;
+    totals = omega arith;
+    paid = omega arith;
+    beside = omega arith;
+    noted = refl;
+    few = omega arith;
+    credited = refl;
+    owed = refl;
+    levelled = All-nil (λ (row : Row). pos 0 ≤ℤ balance_of row);
+    owned = All-nil (λ (entry : List ℕ × Attempt). IsOwned entry.0 entry.1);
+    invoiced = All-nil (λ (entry : List ℕ × Attempt). entry.1.invoice ≤ 0);
+  }
 
   pub opened-even : (world : WorldValue) (today : ℕ) (c : OpenAccount)
       → IsEven world (accepted_over world opening today (kinds.OpenAccount c) first_day charged_days).1

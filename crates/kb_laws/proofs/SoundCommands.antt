@@ -20,6 +20,7 @@ use Rattle.kb_book.specs.Steps.{with_paid}
 use Rattle.kb_laws.specs.SoundBooks.{IsBook}
 use Rattle.kb_laws.proofs.AcceptedPayments.{AreSound, payments-sound}
 use Rattle.kb_laws.proofs.BegunBooks.{begun-edited}
+use Rattle.kb_laws.proofs.BilledSteps.{after-billed}
 use Rattle.kb_laws.proofs.InvoicedAttempts.{invoiced-more, AreInvoiced}
 use Rattle.kb_laws.proofs.KeptTotals.{totals_size}
 use Rattle.kb_laws.proofs.PaidMoves.{MovesOnce}
@@ -32,6 +33,7 @@ sound-keep : (command : Command) (key : Option (List ℕ)) (outcome : Outcome) �
     → IsBook (keep command key outcome).1
 sound-keep command None outcome sound = sound
 sound-keep command (Some key) outcome sound = record {
+  billed = (sound.billed.0, record { days = sound.billed.1.days; totals = sound.billed.1.totals });
   matched = sound.matched;
   below = sound.below;
   issued = sound.issued;
@@ -101,6 +103,10 @@ module _ (world : WorldValue) (book : BookValue) (today : ℕ) (command : Comman
     after-sound =
         let edit = begun-edited world book today command in
         record {
+          billed = (
+            world,
+            after-billed sound.billed.0 world book edited (own_lines command) today sound sound.billed.1 edit,
+          );
           matched = after-matched world book edited (own_lines command) today sound edit;
           below = after-below world book edited (own_lines command) today sound edit;
           issued = after-issued world book edited (own_lines command) today sound edit;

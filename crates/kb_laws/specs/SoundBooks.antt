@@ -7,15 +7,18 @@ use Rattle.kb_credit.specs.InvoiceRows.{balance_of}
 use Rattle.kb_credit.specs.InvoiceRows as sums
 use Rattle.kb_payment.specs.declared.attempt.Attempt.{Attempt}
 use Rattle.kb_billing.specs.Numbers.{AreBelow}
+use Rattle.kb_book.specs.Worlds.{WorldValue}
 use Rattle.kb_book.specs.Books.{BookValue}
 use Rattle.kb_book.specs.Steps.{with_paid}
+use Rattle.kb_laws.specs.BilledBooks.{IsBilled}
 use Rattle.kb_laws.specs.OwnKeys.{IsOwned}
 
 -- Each subscription has its items, whose numbers are below the next one. Each command issues at most one
 -- invoice, and no sum grows by more than one command may add to it. What is paid on an invoice is what its
 -- payments say, none is paid beyond its total, and credit is by how much payments exceed totals. An account
--- has fewer than 2^32 commands, as a journal has.
+-- has fewer than 2^32 commands, as a journal has. It is billed, by the texts of the world at its last command.
 pub record IsBook (book : BookValue) : Type 0 where
+  pub billed : (world : WorldValue) × IsBilled world book
   pub matched : length book.charges ≡ length book.timeline.subscriptions
   pub below : All (AreBelow (length book.invoices.items + 1)) book.charges
   pub few : book.commands < 2 ^ 32

@@ -46,30 +46,29 @@ returns-in-Ok-accept-clause-step c =
     c.in-Ok.ensures.allowed c.in-Ok-accept.ensures.accepted c.in-Ok-accept.ensures.next)
 
 pub returns-in-Ok-accept-clause-billed : goal.returns-in-Ok-accept-clause-billed
-returns-in-Ok-accept-clause-billed c other billed =
-    let book = value_of c.self.inside.state in
+returns-in-Ok-accept-clause-billed c =
     subst (λ (outcome : Outcome). IsBilled c.args.world.now outcome.1) c.in-Ok-accept.ensures.next
-    (billed-accepted other c.args.world.now book c.args.today c.args.command.now c.self.invariant
-    (subst (IsBilled other) (sym c.self.view_is) billed))
+    (billed-accepted c.args.world.now (value_of c.self.inside.state) c.args.today c.args.command.now c.self.invariant)
 
 pub returns-in-Ok-accept-clause-added : goal.returns-in-Ok-accept-clause-added
 returns-in-Ok-accept-clause-added c other billed =
     let book = value_of c.self.inside.state in
-    let was : IsBilled other book = subst (IsBilled other) (sym c.self.view_is) billed in
-    subst (λ (before : BookValue). AddsFrom other c.args.world.now before c.in-Ok-accept.next.book × GoOn before c.in-Ok-accept.next.book)
-    c.self.view_is
-    (subst (λ (outcome : Outcome). AddsFrom other c.args.world.now book outcome.1 × GoOn book outcome.1)
-    c.in-Ok-accept.ensures.next (
-      adds-accepted-from other c.args.world.now book c.args.today c.args.command.now c.self.invariant was,
-      items-accepted other c.args.world.now book c.args.today c.args.command.now c.self.invariant was,
-    ))
+    subst (λ (before : BookValue). AddsFrom other c.args.world.now before c.in-Ok-accept.next.book) c.self.view_is
+    (subst (λ (outcome : Outcome). AddsFrom other c.args.world.now book outcome.1) c.in-Ok-accept.ensures.next
+    (adds-accepted-from c.args.world.now book c.args.today c.args.command.now c.self.invariant other
+    (subst (IsBilled other) (sym c.self.view_is) billed)))
+
+pub returns-in-Ok-accept-clause-behind : goal.returns-in-Ok-accept-clause-behind
+returns-in-Ok-accept-clause-behind c =
+    let book = value_of c.self.inside.state in
+    subst (λ (before : BookValue). GoOn before c.in-Ok-accept.next.book) c.self.view_is
+    (subst (λ (outcome : Outcome). GoOn book outcome.1) c.in-Ok-accept.ensures.next
+    (items-accepted c.args.world.now book c.args.today c.args.command.now c.self.invariant))
 
 pub returns-in-Ok-accept-clause-even : goal.returns-in-Ok-accept-clause-even
-returns-in-Ok-accept-clause-even c other billed =
-    let book = value_of c.self.inside.state in
+returns-in-Ok-accept-clause-even c =
     subst (λ (outcome : Outcome). IsEven c.args.world.now outcome.1) c.in-Ok-accept.ensures.next
-    (even-accepted other c.args.world.now book c.args.today c.args.command.now c.self.invariant
-    (subst (IsBilled other) (sym c.self.view_is) billed))
+    (even-accepted c.args.world.now (value_of c.self.inside.state) c.args.today c.args.command.now c.self.invariant)
 
 pub returns-in-Ok-accept-clause-repeated : goal.returns-in-Ok-accept-clause-repeated
 returns-in-Ok-accept-clause-repeated c key is other tomorrow =
