@@ -16,7 +16,8 @@ use Rattle.kb_laws.specs.OwnKeys.{IsOwned}
 -- Each subscription has its items, whose numbers are below the next one. Each command issues at most one
 -- invoice, and no sum grows by more than one command may add to it. What is paid on an invoice is what its
 -- payments say, none is paid beyond its total, and credit is by how much payments exceed totals. An account
--- has fewer than 2^32 commands, as a journal has. It is billed, by the texts of the world at its last command.
+-- has fewer than 2^32 commands, as a journal has. It is billed by some texts: those of the
+-- world at its last command.
 pub record IsBook (book : BookValue) : Type 0 where
   pub billed : (world : WorldValue) × IsBilled world book
   pub matched : length book.charges ≡ length book.timeline.subscriptions
