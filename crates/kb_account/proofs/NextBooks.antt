@@ -49,7 +49,7 @@ moved-noted old new invoices (suc place) amount moved noted =
     with_paid-moved old new invoices (suc place) amount moved.by (omega arith) noted
 
 -- also with one more invoice
-pub move-noted : (old new : PaymentsValue) (invoices : InvoicesValue) (today : ℕ) (lines : List Line) (moved : Move)
+move-noted : (old new : PaymentsValue) (invoices : InvoicesValue) (today : ℕ) (lines : List Line) (moved : Move)
     → HasMoved old new moved → with_paid old invoices ≡ invoices → AreInvoiced (length invoices.rows) old
     → with_paid new (with_invoice invoices today lines) ≡ with_move moved (with_invoice invoices today lines)
 move-noted old new invoices today lines moved has noted invoiced =
@@ -64,7 +64,7 @@ keep-kept command None outcome = refl
 keep-kept command (Some key) outcome = refl
 
 -- the answer and the book that an accepted command gives
-pub next-is : (world : WorldValue) (book edited : BookValue) (today : ℕ) (command : Command) (issue : Issue) (lines : List Line)
+next-is : (world : WorldValue) (book edited : BookValue) (today : ℕ) (command : Command) (issue : Issue) (lines : List Line)
     (invoices : InvoicesValue) (answer : Answer) (kept : Keyed Kept)
     → edited ≡ begun world book today command
     → issue ≡ issue_over world edited first_day charged_days
@@ -119,6 +119,31 @@ next-is world book edited today command issue lines invoices answer kept edit ma
       a,
       record edited { invoices = invoices; charges = issue.charges; commands = edited.commands + 1; kept = k },
     )
+
+-- where what is paid moved on one invoice
+pub next-made : (world : WorldValue) (book edited next : BookValue) (today : ℕ) (command : Command) (issue : Issue)
+    (lines : List Line) (moved : Move) (invoices : InvoicesValue) (answer : Answer) (kept : Keyed Kept)
+    → with_paid book.payments edited.invoices ≡ edited.invoices → AreInvoiced (length edited.invoices.rows) book.payments
+    → edited ≡ begun world book today command → HasMoved book.payments edited.payments moved
+    → issue ≡ issue_over world edited first_day charged_days → lines ≡ issue.lines ++ own_lines command
+    → invoices ≡ levelled (with_move moved (with_invoice edited.invoices today lines))
+    → answer
+    ≡ record {
+      command = edited.commands + 1;
+      invoice = number_of edited.invoices lines;
+      total = sum_of amount_of lines;
+      credit = credit invoices.rows;
+      unpaid = unpaid invoices.rows;
+    }
+    → kept ≡ kept_after edited.kept command answer (key_of command)
+    → next ≡ record edited { invoices = invoices; charges = issue.charges; commands = edited.commands + 1; kept = kept }
+    → accepted_over world book today command first_day charged_days ≡ (answer, next)
+next-made world book edited next today command issue lines moved invoices answer kept noted invoiced edit has made all after
+    told holds is =
+    next-is world book edited today command issue lines invoices answer kept edit made all
+    (after ∙ ap (λ (i : InvoicesValue). levelled i)
+    (sym (move-noted book.payments edited.payments edited.invoices today lines moved has noted invoiced))) told holds
+    ∙ ap (λ (b : BookValue). (answer, b)) (sym is)
 
 -- lines of items come to no more than as many times the greatest price
 pub lines-size : (lines : List Line) → All IsItemLine lines → size_of amount_of lines ≤ 10 ^ 9 * length lines

@@ -1,5 +1,5 @@
 -- The book of an account that is opened.
-use Rattle.std.proofs.Common.{◌≡◌, ℕ, List, [], None, pos, sym, ap, subst, ◌∙◌}
+use Rattle.std.proofs.Common.{◌≡◌, ℕ, List, [], None, pos, sym, subst}
 use Rattle.std.specs.FinMap.{put}
 use Rattle.kb_sharing.specs.Keys.{by_words}
 use Rattle.kb_days.specs.Calendar.{first_day, charged_days}
@@ -27,53 +27,42 @@ use Rattle.kb_account.specs.Prepares.{opening_book}
 abbrev pub first_answer : Answer
 first_answer = record { command = 1; invoice = None; total = pos 0; credit = pos 0; unpaid = pos 0 }
 
--- it is what that command makes of a new book
-pub opened-is : (c : OpenAccount) (timeline : TimelineValue) (blocks : List BlockState) (payments : PaymentsValue)
-    (invoices : InvoicesValue) (charges : List SubscriptionItems) (kept : Keyed Kept) → timeline ≡ no_subscriptions
-    → blocks ≡ [] → payments ≡ no_payments → invoices ≡ no_invoices → charges ≡ []
-    → kept ≡ put by_words c.key (record { spelling = spelling (kinds.OpenAccount c); answer = first_answer }) []
-    → (world : WorldValue) (today : ℕ)
-    → accepted_over world (new_book c.account c.currency c.bcd c.autopay) today (kinds.OpenAccount c) first_day charged_days
-    ≡ (
-      first_answer,
-      record {
-        account = c.account;
-        currency = c.currency;
-        bcd = c.bcd;
-        autopay = c.autopay;
-        timeline = timeline;
-        blocks = blocks;
-        billed = None;
-        beside = pos 0;
-        payments = payments;
-        invoices = invoices;
-        charges = charges;
-        overdue = None;
-        transition = None;
-        commands = 1;
-        kept = kept;
-      },
-    )
-opened-is c timeline blocks payments invoices charges kept one two three four five six world today =
-    rw (one, two, three, four, five, six)
-
--- an answer that is this one
-pub opened-told : (c : OpenAccount) (book : BookValue) (answer : Answer) → answer ≡ first_answer
-    → ((world : WorldValue) (today : ℕ)
-    → accepted_over world (new_book c.account c.currency c.bcd c.autopay) today (kinds.OpenAccount c) first_day charged_days
-    ≡ (first_answer, book))
-    → (world : WorldValue) (today : ℕ)
+-- what that command makes of a new book
+abbrev pub IsOpened : OpenAccount → BookValue → Answer → Type 0
+IsOpened c book answer =
+    (world : WorldValue) (today : ℕ)
     → accepted_over world (new_book c.account c.currency c.bcd c.autopay) today (kinds.OpenAccount c) first_day charged_days
     ≡ (answer, book)
-opened-told c book answer is made world today = made world today ∙ ap (λ (a : Answer). (a, book)) (sym is)
+
+-- it is a book without a subscription that keeps its answer
+pub opened-is : (command : Command) (c : OpenAccount) (timeline : TimelineValue) (blocks : List BlockState)
+    (payments : PaymentsValue) (invoices : InvoicesValue) (charges : List SubscriptionItems) (kept : Keyed Kept)
+    (answer : Answer) → command ≡ kinds.OpenAccount c → timeline ≡ no_subscriptions → blocks ≡ []
+    → payments ≡ no_payments → invoices ≡ no_invoices → charges ≡ []
+    → kept ≡ put by_words c.key (record { spelling = spelling command; answer = answer }) [] → answer ≡ first_answer
+    → IsOpened c (record {
+      account = c.account;
+      currency = c.currency;
+      bcd = c.bcd;
+      autopay = c.autopay;
+      timeline = timeline;
+      blocks = blocks;
+      billed = None;
+      beside = pos 0;
+      payments = payments;
+      invoices = invoices;
+      charges = charges;
+      overdue = None;
+      transition = None;
+      commands = 1;
+      kept = kept;
+    }) answer
+opened-is command c timeline blocks payments invoices charges kept answer is one two three four five six told world today =
+    rw (one, two, three, four, five, six, is, told)
 
 -- such a book is sound
-pub opened-sound_book : (c : OpenAccount) (book : BookValue)
-    → ((world : WorldValue) (today : ℕ)
-    → accepted_over world (new_book c.account c.currency c.bcd c.autopay) today (kinds.OpenAccount c) first_day charged_days
-    ≡ (first_answer, book))
-    → IsBook book
-opened-sound_book c book made =
+pub opened-sound_book : (c : OpenAccount) (book : BookValue) (answer : Answer) → IsOpened c book answer → IsBook book
+opened-sound_book c book answer made =
     subst (λ (outcome : Outcome). IsBook outcome.1) (made no_world 0)
     (opened-sound c.account c.currency c.bcd c.autopay no_world 0 c)
   where
@@ -81,9 +70,7 @@ opened-sound_book c book made =
     no_world = record { versions = []; states = [] }
 
 module _ (command : Command) (c : OpenAccount) (is : command ≡ kinds.OpenAccount c) (book : BookValue) (answer : Answer)
-    (made : (world : WorldValue) (today : ℕ)
-    → accepted_over world (new_book c.account c.currency c.bcd c.autopay) today (kinds.OpenAccount c) first_day charged_days
-    ≡ (answer, book)) where
+    (made : IsOpened c book answer) where
   -- whichever the command is
   pub opened-command : (world : WorldValue) (today : ℕ)
       → accepted_over world (opening_book command) today command first_day charged_days ≡ (answer, book)

@@ -29,9 +29,9 @@ is_same_command (Some kept) command = bytes_eq kept.spelling (spelling command)
 abbrev pub is_kept_command : BookValue → Command → Bool
 is_kept_command book command = is_same_command (kept_of book (key_of command)) command
 
--- the refusal of a step, if it is refused
-abbrev pub refusal_by : Result Outcome Refusal → Option Refusal
-refusal_by (Ok outcome) = None
+-- the refusal of a step or a query, if it is refused
+abbrev pub refusal_by : {A : Type 0} → Result A Refusal → Option Refusal
+refusal_by (Ok given) = None
 refusal_by (Err refusal) = Some refusal
 
 -- what holds of the book and the answer that are prepared, if the command is new

@@ -31,6 +31,7 @@ use Rattle.kb_account.specs.declared.view.invoice.InvoiceView.{InvoiceView}
 use Rattle.kb_account.specs.declared.view.invoice.ItemView.{ItemView}
 use Rattle.kb_account.specs.declared.view.payment.PaymentView.{PaymentView}
 use Rattle.kb_account.specs.declared.view.subscription.SubscriptionView.{SubscriptionView}
+use Rattle.kb_account.specs.Prepares.{refusal_by}
 use Rattle.kb_account.specs.Sums.{bundle_at}
 
 -- an account
@@ -145,13 +146,8 @@ answer_to world book today (queries.Subscription account subscription day) =
     shown views.Subscription refusal.NoSubscription
     (subscription_view (facts_of world book) book.billed (asked_day day today) subscription)
 
--- why there is no answer
-abbrev pub refusal_to : Result View Refusal → Option Refusal
-refusal_to (Ok view) = None
-refusal_to (Err refused) = Some refused
-
 -- an account that has just been opened has no invoice 1
-no_invoice_yet : refusal_to (answer_to (record { versions = []; states = [] })
+no_invoice_yet : refusal_by (answer_to (record { versions = []; states = [] })
     (new_book (codes "a1") (codes "USD") 1 false) (march 1) (queries.Invoice (codes "a1") 1))
     ≡ Some refusal.NoInvoice
 no_invoice_yet = refl

@@ -1,24 +1,20 @@
-//! What an accepted command makes of an account: its edit, billed.
-ghost use Rattle.std.specs.Prelude.{◌≡◌, ◌+◌, ◌*◌, ◌^◌, ◌<◌, ◌≤◌, ◌++◌, ◌∷◌, [], ℕ, length, All, None, OnOk};
-ghost use Rattle.std.specs.Prelude.{IsTrue, IfOk, IfErr, option_to_list};
+//! The items that an edited account gets, and the lines of a command.
+ghost use Rattle.std.specs.Prelude.{◌≡◌, ◌+◌, ◌*◌, ◌^◌, ◌<◌, ◌≤◌, ◌++◌, ◌∷◌, [], length, All, IfOk};
+ghost use Rattle.std.specs.Prelude.{option_to_list};
 ghost use Rattle.kb_days.specs.Calendar.{first_day, charged_days};
 ghost use Rattle.kb_billing.specs.Numbers.{AreBelow};
 ghost use Rattle.kb_billing.specs.ItemLines.{IsItemLine};
-ghost use Rattle.kb_book.specs.Rows.{IsUnprepared};
 ghost use Rattle.kb_book.specs.Dues.{facts_of};
 ghost use Rattle.kb_book.specs.Issues as told;
-ghost use Rattle.kb_book.specs.Edits.{begun};
 ghost use Rattle.kb_book.specs.Steps as steps;
 ghost use Rattle.kb_account.specs.Private.States.{value_of};
-ghost use Rattle.kb_account.specs.Private.Begins.{begun_of, own_refusal, IsBegun};
+ghost use Rattle.kb_account.specs.Private.Begins.{begun_of};
 
-use crate::{Begun, State, World, invoices_after};
+use crate::{Begun, State, World};
 use kb_base::NoMemory;
 use kb_billing::{Issue, SubscriptionCharges, issue_due};
-use kb_blocking::Blocks;
-use kb_book::Answer;
 use kb_codec::Command;
-use kb_credit::{Invoices, Line, total_of};
+use kb_credit::Line;
 use kb_days::Day;
 use kb_due::Facts;
 use kb_timeline::Timeline;

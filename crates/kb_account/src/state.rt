@@ -1,5 +1,5 @@
 //! All that an account is.
-ghost use Rattle.std.specs.Prelude.{◌≡◌, ◌+◌, ◌*◌, ◌^◌, ◌≤◌, nat_abs, IfOk};
+ghost use Rattle.std.specs.Prelude.{◌≡◌, IfOk};
 ghost use Rattle.kb_book.specs.Dues.{facts_of};
 ghost use Rattle.kb_account.specs.Private.States.{value_of};
 ghost use Rattle.kb_account.specs.Private.Begins.{begun_of, IsBegun};

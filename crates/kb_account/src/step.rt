@@ -1,6 +1,6 @@
 //! One step of an account: refused, kept, or accepted.
-ghost use Rattle.std.specs.Prelude.{◌≡◌, ◌-◌, ◌+◌, ◌*◌, ◌^◌, ◌<◌, ◌≤◌, ◌++◌, true, false, length, All, Some, None};
-ghost use Rattle.std.specs.Prelude.{OnOk, IfOk, IfErr, option_copied};
+ghost use Rattle.std.specs.Prelude.{◌≡◌, ◌↔◌, ◌-◌, ◌+◌, ◌^◌, ◌<◌, ◌≤◌, length, None};
+ghost use Rattle.std.specs.Prelude.{IsTrue, OnOk, IfOk, IfErr, option_copied};
 ghost use Rattle.kb_days.specs.Calendar.{first_day, charged_days};
 ghost use Rattle.std.specs.FinMap.{entries};
 ghost use Rattle.kb_sharing.specs.Sums.{sum_of};
@@ -115,7 +115,7 @@ impl State {
 
     /// Whether there is room for one command more.
     fn has_room(&self) -> bool
-        ensures { result ≡ true → (self.now.commands < 2 ^ 32 - 1) × (length self.now.invoices.items < 2 ^ 60) }
+        ensures { IsTrue result ↔ ((self.now.commands < 2 ^ 32 - 1) × (length self.now.invoices.items < 2 ^ 60)) }
     {
         self.commands < MAX_ACCEPTED && self.invoices.items() < MAX_ITEMS
     }

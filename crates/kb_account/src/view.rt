@@ -1,7 +1,8 @@
 //! What an account tells of itself.
 ghost use Rattle.std.specs.Prelude.{◌≡◌, Ok, IfOk, IfErr};
 ghost use Rattle.kb_book.specs.Rows.{IsUnprepared};
-ghost use Rattle.kb_account.specs.Views.{answer_to, refusal_to};
+ghost use Rattle.kb_account.specs.Prepares.{refusal_by};
+ghost use Rattle.kb_account.specs.Views.{answer_to};
 
 mod account;
 mod invoice;
@@ -42,7 +43,7 @@ impl Book {
         query: &Query,
     ) -> Result<View, Unprepared>
         ensures shown { IfOk result (λ view. answer_to world.now self.now today query.now ≡ Ok view) }
-        ensures refused { IfErr result (IsUnprepared (refusal_to (answer_to world.now self.now today query.now))) }
+        ensures refused { IfErr result (IsUnprepared (refusal_by (answer_to world.now self.now today query.now))) }
     {
         let state = &self.state;
         match *query {

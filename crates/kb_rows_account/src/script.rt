@@ -4,7 +4,7 @@
 //! them may stand `@` with the day on which it is sent, and `#` with its key.
 
 use kb_days::Day;
-use kb_samples::{SampleFault, day};
+use kb_samples::day;
 use std::alloc::Global;
 use std::test::Fail;
 

@@ -11,7 +11,6 @@ use kb_book::{Refusal, Unprepared};
 use kb_codec::{Autopay, Bill, Charge, Command, Credit};
 use kb_days::Day;
 use kb_terms::asked_day;
-use std::alloc::Global;
 
 /// The greatest amount of a charge or a credit, in minor units.
 pub(crate) const MAX_CHARGE: u64 = 1_000_000_000;

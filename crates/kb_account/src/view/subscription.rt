@@ -1,10 +1,8 @@
 //! A subscription as it is shown.
 ghost use Rattle.std.specs.Prelude.{◌≡◌, ◌<◌, length, option_map, IfOk, IfSome, slice_get};
-ghost use Rattle.kb_catalog.specs.declared.words.PhaseType.{PhaseType};
 ghost use Rattle.kb_due.specs.Governing.{Governing};
-ghost use Rattle.kb_due.specs.Facts.{subscription_at};
 ghost use Rattle.kb_book.specs.Dues.{facts_of};
-ghost use Rattle.kb_account.specs.Views.{live_terms, place_view, view_at, subscription_view};
+ghost use Rattle.kb_account.specs.Views.{live_terms, place_view, subscription_view};
 ghost use Rattle.kb_account.specs.Private.States.{value_of};
 
 use crate::view::states::bundle_name;

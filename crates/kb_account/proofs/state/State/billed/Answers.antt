@@ -1,15 +1,12 @@
 -- The book after an accepted command, and that it is sound.
-use Rattle.std.proofs.Common.{◌≡◌, ◌++◌, sym, ap, ◌∙◌, arith}
+use Rattle.std.proofs.Common.{◌≡◌, ◌++◌, ◌∙◌, arith}
 use Rattle.std.specs.FinMap.{entries}
 use Rattle.kb_days.specs.Calendar.{first_day, charged_days}
-use Rattle.kb_credit.specs.InvoiceRows.{InvoicesValue}
-use Rattle.kb_credit.specs.InvoiceEdits.{levelled}
-use Rattle.kb_book.specs.Books.{BookValue}
-use Rattle.kb_book.specs.Steps.{own_lines, with_invoice, accepted_over}
+use Rattle.kb_book.specs.Steps.{own_lines, accepted_over}
 use Rattle.kb_account.specs.Private.States.{value_of}
 use Rattle.kb_account.specs.Private.Begins.{begun_of}
 use Rattle.kb_account.proofs.BegunNexts.{begun-matched, begun-below, all-plain, all-few, all-small, all-room}
-use Rattle.kb_account.proofs.NextBooks.{next-is, move-noted, lines-plain}
+use Rattle.kb_account.proofs.NextBooks.{next-made, lines-plain}
 use Rattle.kb_account.proofs.SoundNexts.{next-sound}
 use Rattle.kb_account.proofs.state.State.billed.Goals as goal
 
@@ -58,20 +55,14 @@ is_next : (c : goal.After-next_state-state)
     ≡ (c.answer-answer.result, value_of c.next_state-state.result)
 is_next c =
     let book = value_of c.args.self.now in
-    let edited = begun_of book c.args.edit in
     let told = c.as_slice-told.result.now in
-    let whole : told ≡ c.in_ok-issue.issue.lines.items ++ own_lines c.args.command.now =
-    c.as_slice-told.ensures.value ∙ c.in_ok-lines.ensures in
-    let made = with_invoice c.args.self.now.invoices c.args.today told in
-    let noted = move-noted book.payments edited.payments c.args.self.now.invoices c.args.today told c.args.edit.moved
-    c.requires.edit.moved c.requires.sound.noted c.requires.sound.invoiced in
-    next-is c.args.world.now book edited c.args.today c.args.command.now
+    next-made c.args.world.now book (begun_of book c.args.edit) (value_of c.next_state-state.result) c.args.today
+    c.args.command.now
     (record { lines = c.in_ok-issue.issue.lines.items; charges = c.in_ok-issue.issue.charges.items }) told
-    c.in_ok-invoices.invoices c.answer-answer.result (entries c.in_ok-kept.kept) c.requires.begun
-    c.in_ok-issue.ensures.issue whole
-    (c.in_ok-invoices.ensures.after ∙ ap (λ (invoices : InvoicesValue). levelled invoices) (sym noted))
-    c.answer-answer.ensures c.in_ok-kept.ensures
-    ∙ ap (λ (next : BookValue). (c.answer-answer.result, next)) (sym c.next_state-state.ensures)
+    c.args.edit.moved c.in_ok-invoices.invoices c.answer-answer.result (entries c.in_ok-kept.kept) c.requires.sound.noted
+    c.requires.sound.invoiced c.requires.begun c.requires.edit.moved c.in_ok-issue.ensures.issue
+    (c.as_slice-told.ensures.value ∙ c.in_ok-lines.ensures) c.in_ok-invoices.ensures.after c.answer-answer.ensures
+    c.in_ok-kept.ensures c.next_state-state.ensures
 
 pub invariant_of-result : goal.invariant_of-result
 invariant_of-result c =
@@ -91,17 +82,11 @@ invariant_of-result c =
 pub returns : goal.returns
 returns c =
     let book = value_of c.args.self.now in
-    let edited = begun_of book c.args.edit in
     let told = c.as_slice-told.result.now in
-    let whole : told ≡ c.in_ok-issue.issue.lines.items ++ own_lines c.args.command.now =
-    c.as_slice-told.ensures.value ∙ c.in_ok-lines.ensures in
-    let made = with_invoice c.args.self.now.invoices c.args.today told in
-    let noted = move-noted book.payments edited.payments c.args.self.now.invoices c.args.today told c.args.edit.moved
-    c.requires.edit.moved c.requires.sound.noted c.requires.sound.invoiced in
-    next-is c.args.world.now book edited c.args.today c.args.command.now
+    next-made c.args.world.now book (begun_of book c.args.edit) (value_of c.next_state-state.result) c.args.today
+    c.args.command.now
     (record { lines = c.in_ok-issue.issue.lines.items; charges = c.in_ok-issue.issue.charges.items }) told
-    c.in_ok-invoices.invoices c.answer-answer.result (entries c.in_ok-kept.kept) c.requires.begun
-    c.in_ok-issue.ensures.issue whole
-    (c.in_ok-invoices.ensures.after ∙ ap (λ (invoices : InvoicesValue). levelled invoices) (sym noted))
-    c.answer-answer.ensures c.in_ok-kept.ensures
-    ∙ ap (λ (next : BookValue). (c.answer-answer.result, next)) (sym c.next_state-state.ensures)
+    c.args.edit.moved c.in_ok-invoices.invoices c.answer-answer.result (entries c.in_ok-kept.kept) c.requires.sound.noted
+    c.requires.sound.invoiced c.requires.begun c.requires.edit.moved c.in_ok-issue.ensures.issue
+    (c.as_slice-told.ensures.value ∙ c.in_ok-lines.ensures) c.in_ok-invoices.ensures.after c.answer-answer.ensures
+    c.in_ok-kept.ensures c.next_state-state.ensures
