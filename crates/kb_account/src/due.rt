@@ -69,7 +69,7 @@ fn payment_of(account: Name, invoice: u32) -> Command
 
 /// The payment key of the automatic payment of an invoice on a day.
 #[tactic(auto, using(crate::proofs::AutoKeyNames::key_named))]
-pub(crate) fn auto_key(alloc: Global, invoice: u32, day: Day) -> Result<Name, NoMemory>
+pub fn auto_key(alloc: Global, invoice: u32, day: Day) -> Result<Name, NoMemory>
     ensures { IfOk result (λ key. key ≡ told.auto_key invoice day) }
 {
     let mut bytes = Vec::new(alloc);

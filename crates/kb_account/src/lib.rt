@@ -25,7 +25,7 @@ mod world;
 use begun::{Begun, Move, later, move_on};
 use billing::with_own_line;
 pub use book::Book;
-use due::auto_key;
+pub use due::auto_key;
 use invoicing::invoices_after;
 use kept::Kept;
 use key::key_of;

@@ -1,0 +1,3 @@
+mod Marks
+mod Outcomes
+mod Payloads
