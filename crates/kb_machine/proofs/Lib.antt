@@ -1,0 +1,7 @@
+mod CatalogRows
+mod KeptTexts
+mod NamedBooks
+mod NoStates
+mod Openings
+pub mod Replays
+mod TextRefusals

@@ -1,0 +1,5 @@
+pub mod Judged
+pub mod Texts
+pub mod Machines
+pub mod Histories
+pub mod Plans

@@ -1,0 +1,37 @@
+//! The account of a command.
+ghost use Rattle.std.specs.Prelude.{◌≡◌, ℕ, true, IfSome, IfNone};
+ghost use Rattle.kb_machine.specs.Machines.{MachineValue, account_of, judged, account_judged, is_text};
+
+use kb_codec::Command;
+use kb_days::Name;
+
+/// The account that a command is on; none for a text.
+#[tactic(auto, unfolding(crate::specs::Machines::judged))]
+pub fn account_of(command: &Command) -> Option<Name>
+    ensures account { IfSome result (λ account. account ≡ account_of command.now) }
+    ensures judged { IfSome result (λ account. (machine : MachineValue) (today : ℕ)
+        → judged machine today command.now ≡ account_judged machine today command.now) }
+    ensures text { IfNone result (is_text command.now ≡ true) }
+{
+    match command {
+        Command::Catalog(_) | Command::OverdueRules(_) => None,
+        Command::OpenAccount(members) => Some(members.account),
+        Command::Create(members) => Some(members.account),
+        Command::Change(members) => Some(members.account),
+        Command::Cancel(members) => Some(members.account),
+        Command::Uncancel(members) => Some(members.account),
+        Command::Pause(members) => Some(members.account),
+        Command::Resume(members) => Some(members.account),
+        Command::Block(members) => Some(members.account),
+        Command::Bill(members) => Some(members.account),
+        Command::Charge(members) => Some(members.account),
+        Command::Credit(members) => Some(members.account),
+        Command::Pay(members) => Some(members.account),
+        Command::Refund(members) => Some(members.account),
+        Command::Chargeback(members) => Some(members.account),
+        Command::Autopay(members) => Some(members.account),
+        Command::Auto(members) => Some(members.account),
+        Command::Settle(members) => Some(members.account),
+        Command::Overdue(members) => Some(members.account),
+    }
+}

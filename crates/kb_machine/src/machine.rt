@@ -1,0 +1,250 @@
+//! The machine, and what it plans for a command.
+ghost use Rattle.std.specs.Prelude.{◌≡◌, true, IfOk, IfErr, OnOk, OnErr, [], None, Some};
+ghost use Rattle.kb_book.specs.Books.{BookValue};
+ghost use Rattle.kb_book.specs.Rows.{IsUnprepared};
+ghost use Rattle.kb_reply.specs.declared.reply.LaneReply.TheVariants as replies;
+ghost use Rattle.kb_machine.specs.Judged.{refusal_in, lifted};
+ghost use Rattle.kb_machine.specs.Machines.{MachineValue, no_machine, judged, account_judged};
+ghost use Rattle.kb_machine.specs.Machines.{account_of, book_of, with_book, book_judged, is_text};
+ghost use Rattle.kb_machine.specs.Plans.{plan_judged, changed, change_reply, IsThere, Fits};
+
+use crate::{Books, Change, KeptText, Opened, Planned, account_of};
+use kb_account::{Book, Prepared, World};
+use kb_base::NoMemory;
+use kb_book::{Refusal, Unprepared};
+use kb_catalog::Catalog;
+use kb_codec::Command;
+use kb_days::{Day, Name};
+use kb_overdue::Config;
+use kb_reply::LaneReply;
+use kb_sharing::SharedMap;
+use std::alloc::Global;
+use std::marker::Model;
+
+/// The most accounts that a machine has.
+pub const MAX_ACCOUNTS: usize = 100_000;
+
+/// The texts of a shop and the books of its accounts. Contracts see it as the definitions do.
+#[derive(Drop)]
+pub struct Machine {
+    pub(crate) world: World,
+    pub(crate) catalogs: SharedMap<Name, KeptText>,
+    pub(crate) overdues: SharedMap<Name, KeptText>,
+    books: Books,
+}
+
+impl Model for Machine {
+    ghost use Rattle.std.specs.FinMap.{entries};
+    ghost use Rattle.kb_machine.specs.Machines.{MachineValue};
+
+    ghost Value = { MachineValue };
+
+    ghost view = { λ machine. record {
+      texts = record {
+        world = machine.world;
+        catalogs = entries machine.catalogs;
+        overdues = entries machine.overdues;
+      };
+      books = machine.books;
+    } };
+}
+
+impl Machine {
+    /// A machine before any command.
+    #[tactic(auto, using(crate::proofs::KeptTexts::none_kept))]
+    pub fn new(alloc: Global) -> Machine
+        ensures { result ≡ no_machine }
+    {
+        Machine {
+            world: World {
+                catalog: Catalog::new(alloc),
+                overdue: no_states(alloc),
+            },
+            catalogs: SharedMap::new(),
+            overdues: SharedMap::new(),
+            books: Books::new(alloc),
+        }
+    }
+
+    /// What is planned for a command that comes on a day. An `Err` is the first refusal, or comes if memory runs
+    /// out. Nothing is changed.
+    pub fn prepare(
+        &self,
+        alloc: Global,
+        today: Day,
+        command: &Command,
+    ) -> Result<Planned, Unprepared>
+        ensures judged { IfOk result (λ planned. judged self.now today command.now ≡ plan_judged self.now planned) }
+        ensures fits { IfOk result (Fits self.now) }
+        ensures refused { IfErr result (IsUnprepared (refusal_in (judged self.now today command.now))) }
+    {
+        match account_of(command) {
+            Some(account) => self.plan_account(alloc, today, command, account),
+            None => self.plan_text(alloc, today, command),
+        }
+    }
+
+    /// Takes in a change that was planned for this machine as it stands, and gives the reply. It takes no
+    /// memory.
+    pub fn commit(&mut self, change: Change) -> LaneReply
+        requires there { IsThere self.old change }
+        ensures machine { self.new ≡ changed self.old change }
+        ensures reply { result ≡ change_reply change }
+    {
+        match change {
+            Change::Catalog {
+                catalog,
+                keys,
+                number,
+            } => {
+                self.world.catalog = catalog;
+                self.catalogs = keys;
+                LaneReply::Version(number)
+            }
+            Change::Overdue {
+                config,
+                keys,
+                number,
+            } => {
+                self.world.overdue = config;
+                self.overdues = keys;
+                LaneReply::States(number)
+            }
+            Change::Book { account, next } => LaneReply::Accepted(
+                self.books.commit(&account, next),
+            ),
+        }
+    }
+
+    /// Adds an account that is opened. Out of memory, the machine is as it was.
+    pub fn open(&mut self, account: Name, book: Book) -> Result<(), NoMemory>
+        ensures ok { OnOk result (self.new ≡ with_book self.old account book) }
+        ensures err { OnErr result (self.new ≡ self.old) }
+    {
+        self.books.insert(account, book)
+    }
+
+    /// Takes out an account that was opened.
+    pub fn take_back(&mut self, account: &Name)
+        ensures { (before : MachineValue) (book : BookValue) → book_of before account.now ≡ None
+            → self.old ≡ with_book before account.now book → self.new ≡ before }
+    {
+        self.books.remove(account);
+    }
+
+    /// What the texts say.
+    pub fn world(&self) -> &World
+        ensures { result.now ≡ self.now.texts.world }
+    {
+        &self.world
+    }
+
+    /// The books of the accounts.
+    pub fn books(&self) -> &Books
+        ensures { result.now ≡ self.now.books }
+    {
+        &self.books
+    }
+
+    /// What is planned for a command on an account.
+    fn plan_account(
+        &self,
+        alloc: Global,
+        today: Day,
+        command: &Command,
+        account: Name,
+    ) -> Result<Planned, Unprepared>
+        requires named { account ≡ account_of command.now }
+        ensures judged { IfOk result (λ planned. account_judged self.now today command.now
+            ≡ plan_judged self.now planned) }
+        ensures fits { IfOk result (Fits self.now) }
+        ensures refused { IfErr result (IsUnprepared (refusal_in (account_judged self.now today command.now))) }
+    {
+        match self.books.get(&account) {
+            Some(book) => planned_on(book, alloc, &self.world, today, command, account),
+            None => self.plan_opening(alloc, today, command, account),
+        }
+    }
+
+    /// What is planned for a command on an account that isn't there.
+    #[tactic(auto, using(crate::proofs::Openings::opened_account))]
+    fn plan_opening(
+        &self,
+        alloc: Global,
+        today: Day,
+        command: &Command,
+        account: Name,
+    ) -> Result<Planned, Unprepared>
+        requires named { account ≡ account_of command.now }
+        requires absent { book_of self.now account ≡ None }
+        ensures judged { IfOk result (λ planned. account_judged self.now today command.now
+            ≡ plan_judged self.now planned) }
+        ensures fits { IfOk result (Fits self.now) }
+        ensures refused { IfErr result (IsUnprepared (refusal_in (account_judged self.now today command.now))) }
+    {
+        let Command::OpenAccount(_) = command else {
+            return Err(Unprepared::Refused(Refusal::NoAccount));
+        };
+        if self.books.len() >= MAX_ACCOUNTS {
+            return Err(Unprepared::Refused(Refusal::Limit {
+                which: 1,
+                limit: 100_000,
+            }));
+        }
+        let (book, answer) = Book::first(alloc, command)?;
+        Ok(Planned::Opened(Opened {
+            account,
+            book,
+            answer,
+        }))
+    }
+
+    /// What is planned for a text.
+    #[tactic(auto, using(crate::proofs::TextRefusals::refused_catalog, crate::proofs::TextRefusals::refused_overdue), unfolding(crate::specs::Machines::judged))]
+    fn plan_text(&self, alloc: Global, today: Day, command: &Command) -> Result<Planned, Unprepared>
+        requires text { is_text command.now ≡ true }
+        ensures judged { IfOk result (λ planned. judged self.now today command.now ≡ plan_judged self.now planned) }
+        ensures fits { IfOk result (Fits self.now) }
+        ensures refused { IfErr result (IsUnprepared (refusal_in (judged self.now today command.now))) }
+    {
+        match command {
+            Command::Catalog(text) => self.plan_catalog(alloc, command, text),
+            Command::OverdueRules(text) => self.plan_overdue(alloc, command, text),
+            _ => unreachable!(),
+        }
+    }
+}
+
+/// What is planned for a command on an account that is there.
+fn planned_on(
+    book: &Book,
+    alloc: Global,
+    world: &World,
+    today: Day,
+    command: &Command,
+    account: Name,
+) -> Result<Planned, Unprepared>
+    ensures judged { IfOk result (λ planned. (machine : MachineValue) → machine.texts.world ≡ world.now
+        → book_of machine account ≡ Some book.now → lifted replies.Accepted (with_book machine account)
+        (book_judged world.now book.now today command.now) ≡ plan_judged machine planned) }
+    ensures fits { IfOk result (λ planned. (machine : MachineValue) → book_of machine account ≡ Some book.now
+        → Fits machine planned) }
+    ensures refused { IfErr result (IsUnprepared
+        (refusal_in (book_judged world.now book.now today command.now))) }
+{
+    match book.prepare(alloc, world, today, command)? {
+        Prepared::Next(next) => Ok(Planned::Change(Change::Book { account, next })),
+        Prepared::Kept(answer) => Ok(Planned::Again(LaneReply::Accepted(answer))),
+    }
+}
+
+/// No overdue states.
+#[tactic(auto, using(crate::proofs::NoStates::are_states))]
+fn no_states(alloc: Global) -> Config
+    ensures { result ≡ [] }
+{
+    match Config::check(Vec::new(alloc)) {
+        Ok(config) => config,
+        Err(_) => unreachable!(),
+    }
+}
