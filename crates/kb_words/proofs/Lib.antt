@@ -1,0 +1,7 @@
+pub mod Numbers
+pub mod Cuts
+pub mod Lines
+pub mod Parsing
+pub mod CommandLines
+pub mod Reread
+pub mod AnyOrder
