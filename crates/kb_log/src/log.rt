@@ -98,9 +98,12 @@ impl<D: Disk> Log<D> {
         }
     }
 
-    /// How many commands are acknowledged.
+    /// How many commands are acknowledged. As long as no append has failed, each image of an honest disk stands
+    /// for them.
     pub fn count(&self) -> u64
-        ensures { result ≡ length self.now.history }
+        ensures count { result ≡ length self.now.history }
+        ensures held { self.now.journal.stopped ≡ false → IsTrue (D.honest self.now.journal.disk)
+            → Holds D.honest D.seen D.images self.now.journal (payloads self.now.history) }
     {
         self.count
     }
