@@ -1,0 +1,21 @@
+-- A lane: its log, what it is yet to do, and what it asked of its gateway.
+use Rattle.std.specs.Prelude.{ℕ, ◌≡◌, List}
+use Rattle.kb_log.specs.Logs.{LogValue}
+use Rattle.kb_machine.specs.Machines.{MachineValue, no_machine}
+use Rattle.kb_machine.specs.Histories.{AreNewFrom, replay}
+use Rattle.kb_lane.specs.declared.work.Work.{Work}
+
+-- A lane. Its accounts and texts are those that its log's history leads to.
+pub record LaneValue (D G : Type 0) : Type 0 where
+  pub log : LogValue D
+  pub outbox : List Work
+  pub gateway : G
+
+-- the accounts and texts of a lane
+abbrev pub machine_of : {D G : Type 0} → LaneValue D G → MachineValue
+machine_of lane = replay lane.log.history
+
+-- What always holds of a lane's machine: it is what the history leads to, in which each command was new.
+pub record IsLane {D G : Type 0} (machine : MachineValue) (lane : LaneValue D G) : Type 0 where
+  pub replayed : machine ≡ machine_of lane
+  pub fresh : AreNewFrom no_machine lane.log.history

@@ -1,0 +1,4 @@
+pub mod Works
+pub mod Lanes
+pub mod Replies
+pub mod Private

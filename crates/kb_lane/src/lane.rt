@@ -1,0 +1,119 @@
+//! A lane, and what it tells of itself.
+ghost use Rattle.std.specs.Prelude.{◌≡◌, ◌≤◌, ◌<◌, [], false, length, IsTrue, IfOk, IfErr};
+ghost use Rattle.std.specs.Option.{option_copied};
+ghost use Rattle.kb_journal.specs.Keeping.{Holds, RefusesToCreate};
+ghost use Rattle.kb_log.specs.Entries.{payloads};
+ghost use Rattle.kb_machine.specs.Machines.{book_of};
+ghost use Rattle.kb_lane.specs.Lanes.{machine_of};
+
+use crate::Work;
+use kb_account::{Book, World};
+use kb_days::Name;
+use kb_disk::Disk;
+use kb_gateway::Gateway;
+use kb_journal::CreateFault;
+use kb_log::Log;
+use kb_machine::Machine;
+use std::alloc::Global;
+use std::collections::VecDeque;
+use std::marker::Model;
+
+/// Accounts on a journal, with what is yet to do for them and the gateway that is asked for payments.
+#[derive(Drop)]
+pub struct Lane<D: Disk, G: Gateway + Drop> {
+    pub(crate) machine: Machine,
+    pub(crate) log: Log<D>,
+    pub(crate) outbox: VecDeque<Work>,
+    pub(crate) gateway: G,
+}
+
+impl<D: Disk, G: Gateway + Drop> Model for Lane<D, G> {
+    ghost use Rattle.std.specs.VecDeque.{deque_items};
+    ghost use Rattle.kb_lane.specs.Lanes.{LaneValue, IsLane};
+
+    ghost Value = { LaneValue D G };
+
+    ghost view = { λ lane. record {
+      log = lane.log;
+      outbox = deque_items lane.outbox;
+      gateway = lane.gateway;
+    } };
+
+    ghost invariant = { λ lane. IsLane {D = D} {G = G} lane.machine (record {
+      log = lane.log;
+      outbox = deque_items lane.outbox;
+      gateway = lane.gateway;
+    }) };
+}
+
+impl<D: Disk, G: Gateway + Drop> Lane<D, G> {
+    /// A lane without an account, of this number among so many, on a disk without bytes. A fault gives the disk
+    /// and the gateway back.
+    #[tactic(auto, using(kb_machine::proofs::Replays::replay_none, kb_machine::proofs::Replays::fresh_none))]
+    pub fn create(
+        alloc: Global,
+        disk: D,
+        gateway: G,
+        lane: u16,
+        lanes: u16,
+    ) -> Result<Lane<D, G>, (CreateFault, D, G)>
+        requires some_lanes { 1 ≤ lanes }
+        requires few_lanes { lanes ≤ 64 }
+        requires one_of_them { lane < lanes }
+        ensures empty { IfOk result (λ made. made.log.history ≡ []) }
+        ensures outbox { IfOk result (λ made. made.outbox ≡ []) }
+        ensures gateway { IfOk result (λ made. made.gateway ≡ gateway) }
+        ensures refused { IfErr result (λ refused.
+            RefusesToCreate D.honest D.seen D.images D.fault_count disk refused.0 refused.1) }
+        ensures same_gateway { IfErr result (λ refused. refused.2 ≡ gateway) }
+    {
+        match Log::create(disk, lane, lanes) {
+            Ok(log) => Ok(Lane {
+                machine: Machine::new(alloc),
+                log,
+                outbox: VecDeque::new(alloc),
+                gateway,
+            }),
+            Err((fault, disk)) => Err((fault, disk, gateway)),
+        }
+    }
+
+    /// The disk and the gateway, as they are.
+    pub fn into_parts(self) -> (D, G)
+        ensures disk { result.0 ≡ self.log.journal.disk }
+        ensures gateway { result.1 ≡ self.gateway }
+    {
+        (self.log.into_disk(), self.gateway)
+    }
+
+    /// The number of lanes that the header tells.
+    pub fn lanes(&self) -> u16
+        ensures { result ≡ self.now.log.journal.lanes }
+    {
+        self.log.lanes()
+    }
+
+    /// How many commands are acknowledged. As long as no append has failed, each image of an honest disk stands
+    /// for them.
+    pub fn count(&self) -> u64
+        ensures count { result ≡ length self.now.log.history }
+        ensures held { self.now.log.journal.stopped ≡ false → IsTrue (D.honest self.now.log.journal.disk)
+            → Holds D.honest D.seen D.images self.now.log.journal (payloads self.now.log.history) }
+    {
+        self.log.count()
+    }
+
+    /// The book of an account, if it is there.
+    pub fn book(&self, account: &Name) -> Option<&Book>
+        ensures { option_copied result ≡ book_of (machine_of self.now) account.now }
+    {
+        self.machine.books().get(account)
+    }
+
+    /// What the texts say.
+    pub fn world(&self) -> &World
+        ensures { result.now ≡ (machine_of self.now).texts.world }
+    {
+        self.machine.world()
+    }
+}

@@ -1,0 +1,16 @@
+//! A lane: accounts on a journal.
+//!
+//! The rule kept here: a lane's accounts and texts are what the history in its journal leads to. A command is
+//! refused, or gets its kept reply, and touches no disk; or it is written down first and taken in after, and its
+//! reply is the machine's. All memory is taken before the disk is written to. Layers above hand lanes on under a
+//! lock, and add no rule of their own.
+#![tactic(auto)]
+
+mod accept;
+mod lane;
+mod work;
+mod works;
+
+pub use kb_reply::{LaneReply, Step};
+pub use lane::Lane;
+pub use work::Work;
