@@ -1,0 +1,7 @@
+pub mod Connections
+pub mod Heads
+pub mod Private
+pub mod Requests
+pub mod Responses
+pub mod Routes
+pub mod Words
