@@ -1,0 +1,14 @@
+//! Rows that hold connections against worked bytes: which requests and refusals they give, however they are
+//! cut, and what is answered on them.
+#![tactic(auto)]
+
+#[cfg(test)]
+mod doors;
+#[cfg(test)]
+mod requests;
+#[cfg(test)]
+mod responses;
+#[cfg(test)]
+mod sockets;
+#[cfg(test)]
+mod streams;

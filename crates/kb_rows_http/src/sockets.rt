@@ -1,0 +1,30 @@
+//! Connections over TCP, from this process to itself.
+
+use kb_http::{Conn, HttpNext, Route};
+use kb_sockets::{Door, TcpDoor};
+use std::io::{Read, Write};
+use std::net::TcpStream;
+use std::test::Fail;
+
+#[test]
+fn a_request_over_tcp(rt: HostRuntime) -> Result<(), Fail> {
+    let alloc = rt.alloc();
+    let mut door = TcpDoor::new(&rt);
+    door.listen(0)?;
+    let port = door.port().ok_or("a port")?;
+    let mut peer = TcpStream::connect(&rt, ("127.0.0.1", port))?;
+    peer.write_all(b"POST /janitor HTTP/1.1\r\nContent-Length: 2\r\n\r\n{}")?;
+    let link = door.accept()?;
+    let mut conn = Conn::new(alloc, link);
+    let janitor = match conn.next(alloc) {
+        HttpNext::Request(request) => request.route == Route::Janitor && request.body.len() == 2,
+        _ => false,
+    };
+    conn.send(b"done")?;
+    let mut buf = [0; 4];
+    peer.read_exact(&mut buf)?;
+    drop(peer);
+    let closed = matches!(conn.next(alloc), HttpNext::Closed);
+    assert_eq!(rt; (janitor, buf, closed), (true, *b"done", true));
+    Ok(())
+}
