@@ -1,0 +1,7 @@
+pub mod Kinds
+pub mod Table
+pub mod Values
+pub mod Wrongs
+pub mod Asked
+pub mod Requests
+pub mod SmallLines
