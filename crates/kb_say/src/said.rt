@@ -1,0 +1,21 @@
+//! What can be said.
+
+use kb_account::View;
+use kb_book::Refusal;
+use kb_reply::{LaneReply, Step};
+use kb_request::RequestFault;
+
+/// What is said to a request.
+#[derive(Drop)]
+pub enum Said {
+    /// What a lane replied to a command.
+    Reply(LaneReply),
+    /// What is shown.
+    View(View),
+    /// It is refused.
+    Refused(Refusal),
+    /// The line is no request.
+    Fault(RequestFault),
+    /// What came of looking up open payments.
+    Janitor(Step),
+}
