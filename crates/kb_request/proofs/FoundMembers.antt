@@ -60,9 +60,10 @@ members_right dated kind object is =
     (wrong_today dated object)) is in
     let optional = told_first-nothing
     (told_from (wrong_optional object) wrong.Nothing (members_of kind).optional) (wrong_today dated object)
-    needed.1 in
-    ((told_from-nothing (wrong_needed object) wrong.Nothing (members_of kind).needed needed.0).1,
-    (told_from-nothing (wrong_optional object) wrong.Nothing (members_of kind).optional optional.0).1)
+    needed.1 in (
+      (told_from-nothing (wrong_needed object) wrong.Nothing (members_of kind).needed needed.0).1,
+      (told_from-nothing (wrong_optional object) wrong.Nothing (members_of kind).optional optional.0).1,
+    )
 
 -- a value is read as what its sort wants
 abbrev pub IsReadAs : Sort → Data → Type 0
