@@ -1,1 +1,4 @@
+mod Grows
+mod Places
 mod SaidReplies
+mod Stuck

@@ -1,5 +1,5 @@
 -- The replies to commands that aren't refused.
-use Rattle.std.proofs.Common.{◌≡◌, ℕ, true, false, true≢false, Bool, refl, sym, subst, ◌∙◌, ap}
+use Rattle.std.proofs.Common.{◌≡◌, ℕ, true, true≢false, refl, sym, subst, ◌∙◌, ap}
 use Rattle.kb_codec.specs.declared.command.Command.{Command}
 use Rattle.kb_codec.specs.declared.command.Command.TheVariants as kinds
 use Rattle.kb_reply.specs.declared.reply.LaneReply.{LaneReply}

@@ -1,4 +1,5 @@
 pub mod Works
 pub mod Lanes
 pub mod Replies
+pub mod Loads
 pub mod Private

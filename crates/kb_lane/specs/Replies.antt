@@ -1,10 +1,9 @@
 -- What a lane replies to a command, and what it leaves.
-use Rattle.std.specs.Prelude.{ℕ, ◌≡◌, Bool, true, false, ◌&&◌, List, [], ◌∷◌, ◌++◌, ⊤}
+use Rattle.std.specs.Prelude.{ℕ, ◌≡◌, Bool, true, false, ◌&&◌, [], ◌∷◌, ◌++◌, ⊤}
 use Rattle.kb_base.specs.Faults.{Rose}
 use Rattle.kb_reply.specs.declared.reply.LaneReply.{LaneReply}
 use Rattle.kb_reply.specs.declared.reply.LaneReply.TheVariants as replies
 use Rattle.kb_log.specs.Entries.{Entry}
-use Rattle.kb_log.specs.Logs.{MayAppend}
 use Rattle.kb_machine.specs.Judged.{Judged, is_new}
 use Rattle.kb_machine.specs.Machines.{MachineValue, reply_of}
 use Rattle.kb_lane.specs.Lanes.{LaneValue}

@@ -8,6 +8,8 @@
 
 mod accept;
 mod lane;
+mod load;
+mod replayed;
 mod work;
 mod works;
 
