@@ -1,0 +1,4 @@
+pub mod Openings
+pub mod Keys
+pub mod Repeats
+pub mod OwnCommands
