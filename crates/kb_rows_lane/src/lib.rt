@@ -1,0 +1,7 @@
+//! Worked rows of lanes on disks in memory.
+#![tactic(auto)]
+
+#[cfg(test)]
+mod lanes;
+#[cfg(test)]
+mod rows;

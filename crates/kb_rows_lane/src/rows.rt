@@ -1,0 +1,184 @@
+//! Commands on lanes, and their replies.
+//!
+//! A line has the bytes of a command and its reply behind ` > `: `#12` is a byte, `=USD` three letters, and any
+//! other word a name.
+
+use crate::lanes::{TestLane, again, count_of, empty, journal, performed, put, stuck_at, told};
+use kb_catalog_text::{read, read_overdue};
+use kb_codec::{Catalog, Command, OverdueRules};
+use kb_samples::{OVERDUE, SHOP, day, name};
+use std::alloc::Global;
+use std::process::Abort;
+use std::test::Fail;
+
+const ACCOUNTS: &str = "\
+#11 a1 k3 #0 > refused 0
+#3 a1 k1 =USD #1 #0 > ok 1
+#3 a1 k1 =USD #1 #0 > ok 1
+#3 a1 k9 =USD #1 #0 > refused 0
+#12 a1 k2 #0 #0 #0 #0 #0 #0 #1 #244 > ok 2
+#11 a1 k3 #0 > ok 3
+#12 a1 k2 #0 #0 #0 #0 #0 #0 #1 #244 > ok 2
+#11 a2 k3 #0 > refused 0
+#3 a2 k1 =USD #5 #1 > ok 1";
+
+/// Behind those of `ACCOUNTS`, where the lane was loaded.
+const AGAIN: &str = "\
+#12 a1 k2 #0 #0 #0 #0 #0 #0 #1 #244 > ok 2
+#3 a2 k1 =USD #5 #1 > ok 1
+#3 a1 k9 =USD #1 #0 > refused 0
+#11 a1 k4 #0 > ok 4";
+
+/// Records, and the place of the one that is stuck: no command, one without its account, one that came before.
+const STUCK: [(&str, u64); 3] = [
+    ("#7", 16),
+    ("#0 #0 #77 #71 #11 a1 k3 #0", 16),
+    (
+        "#0 #0 #77 #71 #3 a1 k1 =USD #1 #0\n#0 #0 #77 #71 #3 a1 k1 =USD #1 #0",
+        37,
+    ),
+];
+
+/// The second command meets a fault of the disk.
+const STOPS: &str = "\
+#3 a1 k1 =USD #1 #0 > ok 1
+#12 a1 k2 #0 #0 #0 #0 #0 #0 #1 #244 > disk 0
+#11 a1 k3 #0 > stopped 1
+#3 a1 k1 =USD #1 #0 > ok 1
+#11 a2 k3 #0 > refused 0";
+
+/// Holds the replies to the commands of a table, and how many are acknowledged at the end.
+fn hold(
+    rt: &impl Abort,
+    alloc: Global,
+    failing: &[u64],
+    table: &str,
+    count: u64,
+) -> Result<(), Fail> {
+    let mut lane = empty(alloc, failing)?;
+    hold_lines(rt, alloc, &mut lane, table)?;
+    assert_eq!(rt; count_of(&lane), count);
+    Ok(())
+}
+
+fn hold_lines(
+    rt: &impl Abort,
+    alloc: Global,
+    lane: &mut TestLane,
+    table: &str,
+) -> Result<(), Fail> {
+    let today = day("2024-03-01")?;
+    for line in table.split('\n') {
+        let (command, reply) = line.split_once(" > ").unwrap_or((line, ""));
+        let bytes = bytes_of(alloc, command)?;
+        let said = told(lane, alloc, today, &bytes)?;
+        assert_eq!(rt; said.as_str(), reply, "{command}");
+    }
+    Ok(())
+}
+
+/// The bytes of a line.
+fn bytes_of(alloc: Global, line: &str) -> Result<Vec<u8>, Fail> {
+    let mut bytes = Vec::new(alloc);
+    for word in line.split(' ') {
+        put_word(&mut bytes, word)?;
+    }
+    Ok(bytes)
+}
+
+fn put_word(bytes: &mut Vec<u8>, word: &str) -> Result<(), Fail> {
+    if let Some(number) = word.strip_prefix('#') {
+        bytes.push(number.parse::<u8>()?)?;
+        return Ok(());
+    }
+    if let Some(letters) = word.strip_prefix('=') {
+        bytes.extend_from_slice(letters.as_bytes())?;
+        return Ok(());
+    }
+    bytes.push(u8::try_from(word.len())?)?;
+    bytes.extend_from_slice(word.as_bytes())?;
+    Ok(())
+}
+
+#[test]
+fn commands_on_accounts(rt: HostRuntime) -> Result<(), Fail> {
+    hold(&rt, rt.alloc(), &[], ACCOUNTS, 4)
+}
+
+#[test]
+fn disks_that_fail(rt: HostRuntime) -> Result<(), Fail> {
+    // The lane is made by three calls of its disk. Each command that is written down makes four.
+    for call in 8..12 {
+        hold(&rt, rt.alloc(), &[call], STOPS, 1)?;
+    }
+    Ok(())
+}
+
+#[test]
+fn lanes_that_are_loaded(rt: HostRuntime) -> Result<(), Fail> {
+    let alloc = rt.alloc();
+    let mut lane = empty(alloc, &[])?;
+    hold_lines(&rt, alloc, &mut lane, ACCOUNTS)?;
+    let mut lane = again(alloc, lane)?;
+    assert_eq!(rt; count_of(&lane), 4);
+    hold_lines(&rt, alloc, &mut lane, AGAIN)?;
+    assert_eq!(rt; count_of(&lane), 5);
+    Ok(())
+}
+
+#[test]
+fn records_that_are_stuck(rt: HostRuntime) -> Result<(), Fail> {
+    let alloc = rt.alloc();
+    for (records, place) in STUCK {
+        let mut journal = journal(alloc)?;
+        for record in records.split('\n') {
+            put(&mut journal, &bytes_of(alloc, record)?)?;
+        }
+        assert_eq!(rt; stuck_at(alloc, journal)?, place, "{records}");
+    }
+    Ok(())
+}
+
+#[test]
+fn texts(rt: HostRuntime) -> Result<(), Fail> {
+    let alloc = rt.alloc();
+    let mut lane = empty(alloc, &[])?;
+    for (key, reply) in [
+        ("init", "version 1"),
+        ("init", "version 1"),
+        ("k1", "refused 0"),
+    ] {
+        assert_eq!(rt;
+            after_catalog(alloc, &mut lane, key)?.as_str(),
+            reply,
+            "{key}"
+        );
+    }
+    for reply in ["states 2", "states 2"] {
+        assert_eq!(rt; after_overdue(alloc, &mut lane)?.as_str(), reply);
+    }
+    assert_eq!(rt; count_of(&lane), 2);
+    Ok(())
+}
+
+/// The reply to the shop's catalog text under a key.
+fn after_catalog(alloc: Global, lane: &mut TestLane, key: &str) -> Result<String, Fail> {
+    let key = name(key)?;
+    match read(alloc, SHOP.as_bytes().to_vec(alloc)?) {
+        Ok(text) => performed(lane, alloc, &Command::Catalog(Catalog { key, text })),
+        Err(_) => Err("a text".into()),
+    }
+}
+
+/// The reply to the shop's overdue text.
+fn after_overdue(alloc: Global, lane: &mut TestLane) -> Result<String, Fail> {
+    let key = name("init")?;
+    match read_overdue(alloc, OVERDUE.as_bytes().to_vec(alloc)?) {
+        Ok(text) => performed(
+            lane,
+            alloc,
+            &Command::OverdueRules(OverdueRules { key, text }),
+        ),
+        Err(_) => Err("a text".into()),
+    }
+}
