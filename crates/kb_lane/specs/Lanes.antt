@@ -1,5 +1,5 @@
 -- A lane: its log, what it is yet to do, and what it asked of its gateway.
-use Rattle.std.specs.Prelude.{◌≡◌, List}
+use Rattle.std.specs.Prelude.{ℕ, ◌≡◌, ◌≤◌, Bool, List}
 use Rattle.kb_log.specs.Logs.{LogValue}
 use Rattle.kb_machine.specs.Machines.{MachineValue, no_machine}
 use Rattle.kb_machine.specs.Histories.{AreNewFrom, replay}
@@ -19,3 +19,14 @@ machine_of lane = replay lane.log.history
 pub record IsLane {D G : Type 0} (machine : MachineValue) (lane : LaneValue D G) : Type 0 where
   pub replayed : machine ≡ machine_of lane
   pub fresh : AreNewFrom no_machine lane.log.history
+
+-- What no call changes: which lane of how many it is, what it was opened with, and how honest its disk is. The
+-- disk's count doesn't fall.
+pub record StaysItself {D G : Type 0} (honest : D → Bool) (fault_count : D → ℕ) (old new : LaneValue D G)
+    : Type 0 where
+  pub lanes : new.log.journal.lanes ≡ old.log.journal.lanes
+  pub lane : new.log.journal.lane ≡ old.log.journal.lane
+  pub opened : new.log.opened ≡ old.log.opened
+  pub faults : new.log.faults ≡ old.log.faults
+  pub as_honest : honest new.log.journal.disk ≡ honest old.log.journal.disk
+  pub rising : fault_count old.log.journal.disk ≤ fault_count new.log.journal.disk

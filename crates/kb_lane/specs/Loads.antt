@@ -1,6 +1,7 @@
 -- What the records of a journal are read as: the commands of a lane, each new to those before it.
-use Rattle.std.specs.Prelude.{ℕ, ◌≡◌, ◌+◌, ◌⊎◌, Bool, false, IsTrue, List, ◌∷◌, ◌++◌, length}
+use Rattle.std.specs.Prelude.{ℕ, ◌≡◌, ◌+◌, ◌⊎◌, Bool, false, IsTrue, List, [], ◌∷◌, ◌++◌, length, refl}
 use Rattle.kb_base.specs.Faults.{Rose}
+use Rattle.kb_codec.specs.Members.{day_bytes, four_bytes}
 use Rattle.kb_journal.specs.declared.fault.LoadFault.{LoadFault}
 use Rattle.kb_journal.specs.declared.fault.LoadFault.TheVariants.{NotAJournal, DiskFault, NoMemory}
 use Rattle.kb_journal.specs.Format.{blocks, StandsFor}
@@ -25,6 +26,19 @@ pub record IsStuckAt (records : List (List ℕ)) (at : ℕ) : Type 0 where
   pub parts : records ≡ payloads history ++ (bytes ∷ later)
   pub stuck : IsStuck (replay history) bytes
   pub place : at ≡ 16 + length (blocks (payloads history))
+
+-- a record of one byte is no command
+one_byte : IsStuckAt ((7 ∷ []) ∷ []) 16
+unfolding blocks AreNewFrom day_bytes four_bytes
+one_byte = record {
+  history = [];
+  bytes = 7 ∷ [];
+  later = [];
+  fresh = tt;
+  parts = refl;
+  stuck = λ entry sound is. absurd (cc);
+  place = refl;
+}
 
 -- the bytes are no journal of a lane, or are one, and the record at this place stands for no new command
 abbrev pub IsNoLane : ℕ → List ℕ → ℕ → Type 0

@@ -11,7 +11,7 @@ ghost use Rattle.kb_reply.specs.declared.reply.LaneReply.TheVariants as replies;
 ghost use Rattle.kb_machine.specs.Judged.{New, is_new};
 ghost use Rattle.kb_machine.specs.Machines.{judged, reply_of, with_book, book_of, is_callers};
 ghost use Rattle.kb_machine.specs.Plans.{changed, change_reply, plan_judged, IsThere, Fits};
-ghost use Rattle.kb_lane.specs.Lanes.{machine_of};
+ghost use Rattle.kb_lane.specs.Lanes.{StaysItself, machine_of};
 ghost use Rattle.kb_lane.specs.Works.{work_of};
 ghost use Rattle.kb_lane.specs.Replies.{IsReply, is_accepted, is_taken, Takes, IsMarked};
 ghost use Rattle.kb_lane.specs.Private.Unwritten.{IsUnwritten, HasWritten, unwritten_reply};
@@ -55,6 +55,7 @@ impl<D: Disk, G: Gateway + Drop> Lane<D, G> {
         ensures history { OnOk result (self.new.log.history ≡ self.old.log.history ++ (today, command.now) ∷ []) }
         ensures outbox { OnOk result (self.new.outbox ≡ self.old.outbox ++ work_of (today, command.now)) }
         ensures failed { OnOk result (self.new.log.failed ≡ self.old.log.failed) }
+        ensures running { OnOk result (self.new.log.journal.stopped ≡ false) }
         ensures may { OnOk result (MayAppend self.old.log (length (payload (today, command.now)))) }
         ensures unwritten { IfErr result (IsUnwritten D.fault_count self.old self.new (today, command.now)
             (length (payload (today, command.now)))) }
@@ -63,6 +64,7 @@ impl<D: Disk, G: Gateway + Drop> Lane<D, G> {
             (IsWithOrWithout self.old.log.journal.lanes self.old.log.journal.lane (payloads self.old.log.history)
             (payload (today, command.now))) }
         ensures gateway { self.new.gateway ≡ self.old.gateway }
+        ensures itself { StaysItself D.honest D.fault_count self.old self.new }
     {
         let Ok(bytes) = payload_of(alloc, today, command) else {
             return Err(Unwritten::NoMemory);
@@ -100,6 +102,7 @@ impl<D: Disk, G: Gateway + Drop> Lane<D, G> {
         ensures history { OnOk result (self.new.log.history ≡ self.old.log.history ++ (today, command.now) ∷ []) }
         ensures outbox { OnOk result (self.new.outbox ≡ self.old.outbox ++ work_of (today, command.now)) }
         ensures failed { OnOk result (self.new.log.failed ≡ self.old.log.failed) }
+        ensures running { OnOk result (self.new.log.journal.stopped ≡ false) }
         ensures may { OnOk result (MayAppend self.old.log (length (payload (today, command.now)))) }
         ensures unwritten { IfErr result (IsUnwritten D.fault_count self.old self.new (today, command.now)
             (length (payload (today, command.now)))) }
@@ -108,6 +111,7 @@ impl<D: Disk, G: Gateway + Drop> Lane<D, G> {
             (IsWithOrWithout self.old.log.journal.lanes self.old.log.journal.lane (payloads self.old.log.history)
             (payload (today, command.now))) }
         ensures gateway { self.new.gateway ≡ self.old.gateway }
+        ensures itself { StaysItself D.honest D.fault_count self.old self.new }
     {
         let Opened {
             account,
@@ -167,6 +171,7 @@ impl<D: Disk, G: Gateway + Drop> Lane<D, G> {
             (IsWithOrWithout self.old.log.journal.lanes self.old.log.journal.lane (payloads self.old.log.history)
             (payload (today, command.now))) }
         ensures gateway { self.new.gateway ≡ self.old.gateway }
+        ensures itself { StaysItself D.honest D.fault_count self.old self.new }
     {
         match planned {
             Planned::Change(change) => self.take_in(alloc, today, command, change),
@@ -202,6 +207,7 @@ impl<D: Disk, G: Gateway + Drop> Lane<D, G> {
             (IsWithOrWithout self.old.log.journal.lanes self.old.log.journal.lane (payloads self.old.log.history)
             (payload (today, command.now))) }
         ensures gateway { self.new.gateway ≡ self.old.gateway }
+        ensures itself { StaysItself D.honest D.fault_count self.old self.new }
     {
         match self.machine.prepare(alloc, today, command) {
             Ok(planned) => match self.perform_planned(alloc, today, command, planned) {

@@ -61,6 +61,12 @@ impl<D: Disk, G: Gateway + Drop> Lane<D, G> {
         requires few_lanes { lanes ≤ 64 }
         requires one_of_them { lane < lanes }
         ensures empty { IfOk result (λ made. made.log.history ≡ []) }
+        ensures opened { IfOk result (λ made. made.log.opened ≡ 0) }
+        ensures running { IfOk result (λ made. made.log.journal.stopped ≡ false) }
+        ensures place { IfOk result (λ made. (made.log.journal.lanes ≡ lanes) × (made.log.journal.lane ≡ lane)) }
+        ensures honesty { IfOk result (λ made. D.honest made.log.journal.disk ≡ D.honest disk) }
+        ensures calm { IfOk result (λ made. D.fault_count made.log.journal.disk ≡ D.fault_count disk) }
+        ensures faults { IfOk result (λ made. made.log.faults ≡ D.fault_count disk) }
         ensures outbox { IfOk result (λ made. made.outbox ≡ []) }
         ensures gateway { IfOk result (λ made. made.gateway ≡ gateway) }
         ensures refused { IfErr result (λ refused.

@@ -29,6 +29,8 @@ impl<D: Disk, G: Gateway + Drop> Lane<D, G> {
             (payloads loaded.log.history) (D.seen disk)) }
         ensures opened { IfOk result (λ loaded. loaded.log.opened ≡ length loaded.log.history) }
         ensures running { IfOk result (λ loaded. loaded.log.journal.stopped ≡ false) }
+        ensures place { IfOk result (λ loaded. loaded.log.journal.lane ≡ lane) }
+        ensures faults { IfOk result (λ loaded. loaded.log.faults ≡ D.fault_count loaded.log.journal.disk) }
         ensures outbox { IfOk result (λ loaded. loaded.outbox ≡ []) }
         ensures gateway { IfOk result (λ loaded. loaded.gateway ≡ gateway) }
         ensures unwritten { IfOk result (λ loaded. IsUnwritten D.honest D.images D.moment D.left_since

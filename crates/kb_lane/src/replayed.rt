@@ -77,7 +77,7 @@ impl Replayed {
     }
 
     /// Performs the command of a record.
-    #[tactic(auto, using(kb_machine::proofs::Replays::replay_new, kb_machine::proofs::Replays::fresh_new, crate::proofs::Places::next_place, crate::proofs::Stuck::stuck_again, crate::proofs::Stuck::stuck_refused))]
+    #[tactic(auto, using(crate::proofs::Stuck::stuck_again, crate::proofs::Stuck::stuck_refused))]
     fn perform(
         &mut self,
         alloc: Global,
