@@ -1,5 +1,6 @@
 //! A version that no text can say, since TOML names each key of a table once: a price twice in one currency.
 
+use crate::compare::same;
 use kb_base::Seq;
 use kb_catalog::{Category, Phase, PhaseType, Plan, Price, Product, Rules, Version};
 use kb_days::{Day, Name, Period, Span};
@@ -11,8 +12,11 @@ use std::test::Fail;
 fn a_currency_twice(rt: HostRuntime) -> Result<(), Fail> {
     let version = priced_twice(rt.alloc())?;
     assert!(rt; version.has_counts());
-    let fault = version.check().err().ok_or("a fault")?;
-    assert_eq!(rt; (fault.rule.number(), fault.index), (10, 0));
+    let fault = version
+        .check()
+        .err()
+        .map(|fault| (fault.rule.number(), fault.index));
+    same(&rt, &fault, &Some((10, 0)), &"a currency twice");
     Ok(())
 }
 

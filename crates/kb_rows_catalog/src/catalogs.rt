@@ -1,14 +1,16 @@
 //! Catalogs of some versions: the version of a day, and which one may be added.
 
+use crate::compare::same;
 use crate::told::{changed, valid};
 use kb_catalog::{AddFault, Catalog, MAX_VERSIONS, Valid};
 use kb_days::{Day, text};
-use kb_samples::{DEARER_CLUB, day};
+use kb_samples::{DEARER_CLUB, SampleFault, day};
 use std::alloc::Global;
+use std::process::Abort;
 use std::test::Fail;
 
 /// A version from a date on.
-fn dated(alloc: Global, date: &str) -> Result<Valid, Fail> {
+fn dated(alloc: Global, date: &str) -> Result<Valid, SampleFault> {
     let text = changed(alloc, DEARER_CLUB, "2024-04-01", date)?;
     valid(alloc, text.as_str())
 }
@@ -26,46 +28,69 @@ fn catalog_of(alloc: Global, dates: &[&str]) -> Result<Catalog, Fail> {
 fn daily(alloc: Global, count: u32) -> Result<Catalog, Fail> {
     let mut catalog = Catalog::new(alloc);
     for offset in 0..count {
-        let number = day("2024-10-04")?.number().saturating_add(offset);
-        let date = text(Day::new(number).ok_or("a day")?.reach());
-        catalog = catalog.add(alloc, dated(alloc, std::str::from_utf8(&date)?)?)?;
+        catalog = catalog.add(alloc, dated_after(alloc, offset)?)?;
     }
     Ok(catalog)
 }
 
+/// A version from so many days after 2024-10-04 on.
+fn dated_after(alloc: Global, offset: u32) -> Result<Valid, SampleFault> {
+    let number = day("2024-10-04")?.number().saturating_add(offset);
+    let day = Day::new(number).ok_or(SampleFault::Word)?;
+    let date = text(day.reach());
+    dated(alloc, std::str::from_utf8(&date).unwrap_or(""))
+}
+
+/// A day, and the place of its version.
+const PLACES: [(&str, Option<u32>); 9] = [
+    ("2000-01-01", None),
+    ("2024-10-03", None),
+    ("2024-10-04", Some(0)),
+    ("2024-10-05", Some(0)),
+    ("2025-01-11", Some(0)),
+    ("2025-01-12", Some(1)),
+    ("2025-04-21", Some(1)),
+    ("2025-04-22", Some(2)),
+    ("2099-12-31", Some(2)),
+];
+
 #[test]
 fn the_version_of_a_day(rt: HostRuntime) -> Result<(), Fail> {
-    // a day, and the place of its version
-    const ROWS: [(&str, Option<u32>); 9] = [
-        ("2000-01-01", None),
-        ("2024-10-03", None),
-        ("2024-10-04", Some(0)),
-        ("2024-10-05", Some(0)),
-        ("2025-01-11", Some(0)),
-        ("2025-01-12", Some(1)),
-        ("2025-04-21", Some(1)),
-        ("2025-04-22", Some(2)),
-        ("2099-12-31", Some(2)),
-    ];
     let catalog = catalog_of(rt.alloc(), &["2024-10-04", "2025-01-12", "2025-04-22"])?;
-    for (date, place) in ROWS {
-        assert_eq!(rt; catalog.version_at(day(date)?), place, "{date}");
+    Ok(has_three_versions(&rt, &catalog)?)
+}
+
+fn has_three_versions(rt: &impl Abort, catalog: &Catalog) -> Result<(), SampleFault> {
+    for (date, place) in &PLACES {
+        same(rt, &catalog.version_at(day(date)?), place, date);
     }
-    assert_eq!(rt; catalog.len(), 3);
-    assert!(rt; 1 < catalog.len());
-    assert!(rt; catalog.version(1).version().effective == day("2025-01-12")?);
-    assert_eq!(rt;
-        Catalog::new(rt.alloc()).version_at(day("2024-10-04")?),
-        None
-    );
+    let found = (catalog.len(), second_day(catalog));
+    same(rt, &found, &(3, Some(day("2025-01-12")?)), &"versions");
     Ok(())
 }
 
 #[test]
+fn no_version_of_a_day(rt: HostRuntime) -> Result<(), Fail> {
+    let catalog = Catalog::new(rt.alloc());
+    let place = catalog.version_at(day("2024-10-04")?);
+    same(&rt, &place, &None, &"no version");
+    Ok(())
+}
+
+/// The day from which on the second version holds.
+fn second_day(catalog: &Catalog) -> Option<Day> {
+    if catalog.len() < 2 {
+        return None;
+    }
+    Some(catalog.version(1).version().effective)
+}
+
+/// How many versions are there, the date of the one more, and how many there are then, or why it isn't added.
+type Added = (u32, &'static str, Result<u32, AddFault>);
+
+#[test]
 fn versions_that_are_added(rt: HostRuntime) -> Result<(), Fail> {
-    // how many versions are there, the date of the one more, and how many there are then, or why it isn't
-    // added
-    const ROWS: [(u32, &str, Result<u32, AddFault>); 8] = [
+    const ROWS: [Added; 8] = [
         (0, "2000-01-01", Ok(1)),
         (1, "2024-10-05", Ok(2)),
         (1, "2024-10-04", Err(AddFault::VersionOrder)),
@@ -75,13 +100,18 @@ fn versions_that_are_added(rt: HostRuntime) -> Result<(), Fail> {
         (64, "2024-12-07", Err(AddFault::Limit)),
         (64, "2024-12-06", Err(AddFault::VersionOrder)),
     ];
-    for (count, date, larger) in &ROWS {
-        let catalog = daily(rt.alloc(), *count)?;
-        let added = length_with(rt.alloc(), &catalog, date)?;
-        assert_eq!(rt; added, *larger, "{count} {date}");
-        assert_eq!(rt; catalog.len(), *count);
+    for row in &ROWS {
+        version_is_added(&rt, rt.alloc(), row)?;
     }
-    assert_eq!(rt; MAX_VERSIONS, 64);
+    same(&rt, &MAX_VERSIONS, &64, &"the most versions");
+    Ok(())
+}
+
+fn version_is_added(rt: &impl Abort, alloc: Global, row: &Added) -> Result<(), Fail> {
+    let (count, date, larger) = *row;
+    let catalog = daily(alloc, count)?;
+    let added = length_with(alloc, &catalog, date)?;
+    same(rt, &(added, catalog.len()), &(larger, count), row);
     Ok(())
 }
 

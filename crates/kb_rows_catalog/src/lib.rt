@@ -9,6 +9,8 @@ mod by_hand;
 #[cfg(test)]
 mod catalogs;
 #[cfg(test)]
+mod compare;
+#[cfg(test)]
 mod lookups;
 #[cfg(test)]
 mod messages;

@@ -4,10 +4,11 @@ mod changes;
 mod one_plan;
 mod shop_rules;
 
-use crate::told::valid;
-use kb_catalog::{Align, Category, CreateAlign, PhaseType, PlanAsk, Valid};
+use crate::compare::same;
+use crate::told::{first, split};
+use kb_catalog::{Align, Catalog, Category, CreateAlign, PhaseType, Plan, PlanAsk};
 use kb_days::Period;
-use kb_samples::{SHOP, name};
+use kb_samples::{SHOP, SampleFault, catalog, name};
 use std::alloc::Global;
 use std::process::Abort;
 use std::test::Fail;
@@ -49,10 +50,10 @@ const SALE_PLAN: &str = r#"},
 "#;
 
 /// The shop with a plan more and with two lists.
-fn two_lists(alloc: Global) -> Result<Valid, Fail> {
-    let (shop, _) = SHOP.split_once("}]\nlist = [").ok_or("the lists")?;
+fn two_lists(alloc: Global) -> Result<Catalog, SampleFault> {
+    let (shop, _) = split(SHOP, "}]\nlist = [")?;
     let text = format!(in alloc; "{shop}{SALE_PLAN}{TWO_LISTS}")?;
-    valid(alloc, text.as_str())
+    catalog(alloc, &[text.as_str()])
 }
 
 /// What is asked of a plan.
@@ -62,7 +63,7 @@ fn ask(
     period: Period,
     list: &str,
     phase: Option<PhaseType>,
-) -> Result<PlanAsk, Fail> {
+) -> Result<PlanAsk, SampleFault> {
     Ok(PlanAsk {
         product: name(product)?,
         category,
@@ -75,52 +76,48 @@ fn ask(
 /// A product, a period and a list; and the places of the list and of the plan that are found.
 type Place = (&'static str, Period, &'static str, Option<(u32, u32)>);
 
+const ROWS: [Place; 12] = [
+    ("Basic", Period::Monthly, "DEFAULT", Some((0, 0))),
+    ("Pro", Period::Monthly, "DEFAULT", Some((0, 3))),
+    ("Basic", Period::Monthly, "SALE", Some((1, 7))),
+    ("Basic", Period::Annual, "SALE", Some((1, 1))),
+    // The period of the last phase counts, and not that of the trial.
+    ("Starter", Period::Monthly, "SALE", Some((1, 2))),
+    ("Starter", Period::NoBillingPeriod, "SALE", None),
+    // The other list alone sells it.
+    ("Basic", Period::Annual, "DEFAULT", None),
+    ("Pro", Period::Monthly, "SALE", None),
+    // No list sells it.
+    ("Big", Period::Monthly, "DEFAULT", None),
+    ("None", Period::Monthly, "DEFAULT", None),
+    ("Basic", Period::Weekly, "DEFAULT", None),
+    ("Basic", Period::Monthly, "OTHER", None),
+];
+
 #[test]
 fn plans_by_product_period_and_list(rt: HostRuntime) -> Result<(), Fail> {
-    const ROWS: [Place; 12] = [
-        ("Basic", Period::Monthly, "DEFAULT", Some((0, 0))),
-        ("Pro", Period::Monthly, "DEFAULT", Some((0, 3))),
-        ("Basic", Period::Monthly, "SALE", Some((1, 7))),
-        ("Basic", Period::Annual, "SALE", Some((1, 1))),
-        // The period of the last phase counts, and not that of the trial.
-        ("Starter", Period::Monthly, "SALE", Some((1, 2))),
-        ("Starter", Period::NoBillingPeriod, "SALE", None),
-        // The other list alone sells it.
-        ("Basic", Period::Annual, "DEFAULT", None),
-        ("Pro", Period::Monthly, "SALE", None),
-        // No list sells it.
-        ("Big", Period::Monthly, "DEFAULT", None),
-        ("None", Period::Monthly, "DEFAULT", None),
-        ("Basic", Period::Weekly, "DEFAULT", None),
-        ("Basic", Period::Monthly, "OTHER", None),
-    ];
     let shop = two_lists(rt.alloc())?;
+    Ok(plans_are_found(&rt, &shop)?)
+}
+
+fn plans_are_found(rt: &impl Abort, catalog: &Catalog) -> Result<(), SampleFault> {
+    let version = first(catalog)?;
     for row in &ROWS {
-        plan_is_found(&rt, &shop, row)?;
+        let (product, period, list, places) = *row;
+        let found = version.find_plan(name(product)?, period, name(list)?);
+        same(rt, &found, &places, row);
     }
-    has_an_annual_plan(&rt, &shop)
-}
-
-fn plan_is_found(rt: &impl Abort, version: &Valid, row: &Place) -> Result<(), Fail> {
-    let (product, period, list, places) = *row;
-    let found = version.find_plan(name(product)?, period, name(list)?);
-    assert_eq!(rt; found, places, "{product} by {list}");
-    Ok(())
-}
-
-fn has_an_annual_plan(rt: &impl Abort, version: &Valid) -> Result<(), Fail> {
-    let annual = version.version().plans.as_slice().get(1).ok_or("a plan")?;
-    assert_eq!(rt; annual.period(), Period::Annual);
+    let annual = version.version().plans.as_slice().get(1).map(Plan::period);
+    same(rt, &annual, &Some(Period::Annual), &"the second plan");
     Ok(())
 }
 
 #[test]
 fn an_alignment_of_a_start_is_one_of_a_change(rt: HostRuntime) {
-    assert_eq!(rt;
-        (
-            Align::from(CreateAlign::StartOfBundle),
-            Align::from(CreateAlign::StartOfSubscription)
-        ),
-        (Align::StartOfBundle, Align::StartOfSubscription)
+    let found = (
+        Align::from(CreateAlign::StartOfBundle),
+        Align::from(CreateAlign::StartOfSubscription),
     );
+    let wanted = (Align::StartOfBundle, Align::StartOfSubscription);
+    same(&rt, &found, &wanted, &"alignments");
 }

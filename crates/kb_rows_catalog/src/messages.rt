@@ -1,32 +1,33 @@
 //! What faults tell a shop.
 
+use crate::compare::same;
 use kb_catalog::{AddFault, CatalogFault, Rule};
 use kb_catalog_text::{read, read_overdue};
 use kb_overdue::{ConfigFault, ConfigRule};
 use std::alloc::Global;
+use std::fmt::Display;
+use std::process::Abort;
 use std::test::Fail;
+
+/// A fault is told by this text.
+fn says<T: Display>(rt: &impl Abort, alloc: Global, fault: &T, answer: &str) -> Result<(), Fail> {
+    same(rt, &fault.to_string(alloc)?.as_str(), &answer, &"a fault");
+    Ok(())
+}
 
 #[test]
 fn faults_of_catalogs(rt: HostRuntime) -> Result<(), Fail> {
-    let order = AddFault::VersionOrder.to_string(rt.alloc())?;
-    assert_eq!(rt;
-        order.as_str(),
-        "the version isn't after the last one: give it a later date"
-    );
-    let limit = AddFault::Limit.to_string(rt.alloc())?;
-    assert_eq!(rt;
-        limit.as_str(),
-        "the catalog has 64 versions and takes no more"
-    );
+    let order = "the version isn't after the last one: give it a later date";
+    says(&rt, rt.alloc(), &AddFault::VersionOrder, order)?;
+    let limit = "the catalog has 64 versions and takes no more";
+    says(&rt, rt.alloc(), &AddFault::Limit, limit)?;
     let fault = CatalogFault {
         rule: Rule::PlanProducts,
         index: 2,
     };
-    let told = fault.to_string(rt.alloc())?;
     let answer =
         "rule 6, at place 2 from 0: a plan's product isn't there: add the product, or name another one";
-    assert_eq!(rt; told.as_str(), answer);
-    Ok(())
+    says(&rt, rt.alloc(), &fault, answer)
 }
 
 #[test]
@@ -35,10 +36,8 @@ fn faults_of_overdue_states(rt: HostRuntime) -> Result<(), Fail> {
         rule: ConfigRule::Count,
         index: 16,
     };
-    let told = fault.to_string(rt.alloc())?;
     let answer = "rule 1, at place 16 from 0: there are more than 16 states: take some out";
-    assert_eq!(rt; told.as_str(), answer);
-    Ok(())
+    says(&rt, rt.alloc(), &fault, answer)
 }
 
 #[test]
@@ -63,16 +62,15 @@ fn faults_of_texts(rt: HostRuntime) -> Result<(), Fail> {
         ),
     ];
     for (text, answer) in &ROWS {
-        let message = overdue_message(rt.alloc(), text)?;
-        assert_eq!(rt; message.as_str(), *answer, "{text}");
+        is_refused(&rt, rt.alloc(), text, answer)?;
     }
     Ok(())
 }
 
-/// What is told of an overdue text that is refused.
-fn overdue_message(alloc: Global, text: &str) -> Result<String, Fail> {
+/// An overdue text is refused, and this is told of it.
+fn is_refused(rt: &impl Abort, alloc: Global, text: &str, answer: &str) -> Result<(), Fail> {
     let fault = read_overdue(alloc, text.as_bytes().to_vec(alloc)?).err();
-    Ok(fault.ok_or("a fault")?.to_string(alloc)?)
+    says(rt, alloc, &fault.ok_or("a fault")?, answer)
 }
 
 #[test]
@@ -80,10 +78,6 @@ fn the_fault_of_a_long_text(rt: HostRuntime) -> Result<(), Fail> {
     let mut text = Vec::new(rt.alloc());
     text.resize(60_001, b' ')?;
     let fault = read(rt.alloc(), text).err().ok_or("a fault")?;
-    let told = fault.to_string(rt.alloc())?;
-    assert_eq!(rt;
-        told.as_str(),
-        "the text has 60001 bytes: shorten it to 60000"
-    );
-    Ok(())
+    let answer = "the text has 60001 bytes: shorten it to 60000";
+    says(&rt, rt.alloc(), &fault, answer)
 }

@@ -1,9 +1,10 @@
 //! Overdue states of days.
 
-use kb_catalog_text::read_overdue;
+use crate::compare::same;
+use crate::told::overdue;
 use kb_days::Day;
 use kb_overdue::{Arrears, state_on};
-use kb_samples::{OVERDUE, day};
+use kb_samples::{OVERDUE, SampleFault, day};
 use std::alloc::Global;
 use std::test::Fail;
 
@@ -60,30 +61,29 @@ const ROWS: [Row; 21] = [
 #[test]
 fn states_of_days(rt: HostRuntime) -> Result<(), Fail> {
     for row in &ROWS {
-        let (_, earliest, count, total, asked, place) = row;
-        assert_eq!(rt;
-            place_of(rt.alloc(), row)?,
-            *place,
-            "{earliest} {count} {total}: {asked}"
-        );
+        same(&rt, &place_of(rt.alloc(), row)?, &row.5, row);
     }
     Ok(())
 }
 
 /// The place of the state of a row.
-fn place_of(alloc: Global, row: &Row) -> Result<Option<u32>, Fail> {
-    let bytes = row.0.as_bytes().to_vec(alloc)?;
-    let checked = read_overdue(alloc, bytes).ok().ok_or("a valid text")?;
-    let arrears = Arrears {
+fn place_of(alloc: Global, row: &Row) -> Result<Option<u32>, SampleFault> {
+    let (arrears, asked) = (arrears(row)?, day(row.4)?);
+    let checked = overdue(alloc, row.0)?;
+    Ok(state_on(checked.config(), &arrears, asked))
+}
+
+/// What is unpaid in a row.
+fn arrears(row: &Row) -> Result<Arrears, SampleFault> {
+    Ok(Arrears {
         earliest: earliest(row.1)?,
         count: row.2,
         total: row.3,
-    };
-    Ok(state_on(checked.config(), &arrears, day(row.4)?))
+    })
 }
 
 /// The day of a date; none of an empty text.
-fn earliest(date: &str) -> Result<Option<Day>, Fail> {
+fn earliest(date: &str) -> Result<Option<Day>, SampleFault> {
     if date.is_empty() {
         return Ok(None);
     }

@@ -1,24 +1,34 @@
 //! Overdue states: their rules, and what is handed back.
 
-use crate::told::told_overdue;
+use crate::compare::same;
+use crate::told::overdue_is_told;
 use kb_days::Name;
 use kb_overdue::{Config, OverdueState, Threshold};
+use kb_samples::SampleFault;
 use std::alloc::Global;
+use std::fmt::Display;
+use std::process::Abort;
 use std::test::Fail;
 
 /// A text of states, one for each letter: a capital has a condition, a small letter has none, and a star is
 /// named CLEAR.
-fn text_of(alloc: Global, letters: &str) -> Result<String, Fail> {
+fn text_of(alloc: Global, letters: &str) -> Result<String, SampleFault> {
     let mut text = String::new(alloc);
     for letter in letters.chars() {
         match letter {
-            '*' => text.push_str("[[state]]\nname='CLEAR'\ndays=7\n")?,
-            'a'..='z' => write!(text, "[[state]]\nname='{letter}'\n")?,
-            _ => write!(text, "[[state]]\nname='{letter}'\ndays=7\n")?,
+            '*' => push_state(&mut text, &"CLEAR", "days=7\n")?,
+            'a'..='z' => push_state(&mut text, &letter, "")?,
+            _ => push_state(&mut text, &letter, "days=7\n")?,
         }
-        text.push_str("block_change=false\nblock_entitlement=false\nblock_billing=false\n")?;
     }
     Ok(text)
+}
+
+/// Adds a state of this name with a condition or without one.
+fn push_state<N: Display>(text: &mut String, name: &N, condition: &str) -> Result<(), SampleFault> {
+    const BLOCKS: &str = "block_change=false\nblock_entitlement=false\nblock_billing=false\n";
+    write!(text, "[[state]]\nname='{name}'\n{condition}{BLOCKS}")?;
+    Ok(())
 }
 
 #[test]
@@ -41,19 +51,22 @@ fn the_first_fault(rt: HostRuntime) -> Result<(), Fail> {
     ];
     for (letters, answer) in &ROWS {
         let text = text_of(rt.alloc(), letters)?;
-        let told = told_overdue(rt.alloc(), text.as_bytes())?;
-        assert_eq!(rt; told.as_str(), *answer, "{letters}");
+        overdue_is_told(&rt, rt.alloc(), text.as_bytes(), answer, letters)?;
     }
     Ok(())
 }
 
-/// A state that blocks changes and entitlement or nothing, with the conditions that aren't 0.
-fn state(name: &str, numbers: (u64, u64, u64), blocks: bool) -> Result<OverdueState, Fail> {
+/// A state's name, its days, count and total, of which 0 is no condition, and whether it blocks changes and
+/// entitlement or nothing.
+type State = (&'static str, u64, u64, u64, bool);
+
+fn state(row: &State) -> Result<OverdueState, SampleFault> {
+    let (name, days, count, total, blocks) = *row;
     Ok(OverdueState {
-        name: Name::new(name.as_bytes()).ok_or("a name")?,
-        days: Threshold::new(numbers.0),
-        count: Threshold::new(numbers.1),
-        total: Threshold::new(numbers.2),
+        name: Name::new(name.as_bytes()).ok_or(SampleFault::Word)?,
+        days: Threshold::new(days),
+        count: Threshold::new(count),
+        total: Threshold::new(total),
         block_change: blocks,
         block_entitlement: blocks,
         block_billing: false,
@@ -62,22 +75,21 @@ fn state(name: &str, numbers: (u64, u64, u64), blocks: bool) -> Result<OverdueSt
 
 #[test]
 fn states_are_handed_back(rt: HostRuntime) -> Result<(), Fail> {
-    let cases = [
-        [
-            state("BLOCKED", (14, 0, 0), true)?,
-            state("WARNING", (7, 0, 0), false)?,
-        ],
-        [
-            state("MANY", (0, 3, 0), false)?,
-            state("MUCH", (0, 0, 1000), false)?,
-        ],
+    const CASES: [[State; 2]; 2] = [
+        [("BLOCKED", 14, 0, 0, true), ("WARNING", 7, 0, 0, false)],
+        [("MANY", 0, 3, 0, false), ("MUCH", 0, 0, 1000, false)],
     ];
-    for states in &cases {
-        let config = Config::check(states.to_vec(rt.alloc())?)
-            .ok()
-            .ok_or("valid states")?;
-        assert!(rt; config.states() == states.as_slice());
+    for rows in &CASES {
+        are_handed_back(&rt, rt.alloc(), rows)?;
     }
+    Ok(())
+}
+
+fn are_handed_back(rt: &impl Abort, alloc: Global, rows: &[State; 2]) -> Result<(), Fail> {
+    let states = [state(&rows[0])?, state(&rows[1])?];
+    let config = Config::check(states.to_vec(alloc)?).ok();
+    let is_same = config.is_some_and(|config| config.states() == states.as_slice());
+    same(rt, &is_same, &true, rows);
     Ok(())
 }
 
@@ -91,9 +103,10 @@ fn ends_of_a_threshold(rt: HostRuntime) -> Result<(), Fail> {
         (1_000_000_000_001, false),
         (u64::MAX, false),
     ];
-    for (number, is_one) in ROWS {
+    for row in &ROWS {
+        let (number, is_one) = *row;
         let found = Threshold::new(number).map(Threshold::number);
-        assert_eq!(rt; found, is_one.then_some(number), "{number}");
+        same(&rt, &found, &is_one.then_some(number), row);
     }
     Ok(())
 }

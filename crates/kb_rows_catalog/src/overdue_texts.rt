@@ -1,22 +1,30 @@
 //! Overdue texts.
 
-use crate::told::{changed, told_overdue};
-use kb_catalog_text::read_overdue;
+use crate::compare::same;
+use crate::told::{changed, overdue, overdue_is_told};
+use kb_catalog_text::CheckedOverdue;
 use kb_overdue::{OverdueState, Threshold};
-use kb_samples::OVERDUE;
+use kb_samples::{OVERDUE, SampleFault};
 use std::alloc::Global;
+use std::process::Abort;
 use std::test::Fail;
 
 #[test]
 fn the_shops_states_are_read(rt: HostRuntime) -> Result<(), Fail> {
-    let bytes = OVERDUE.as_bytes().to_vec(rt.alloc())?;
-    let checked = read_overdue(rt.alloc(), bytes).ok().ok_or("a valid text")?;
-    assert_eq!(rt; checked.text(), OVERDUE.as_bytes());
-    let states = checked.config().states();
-    assert_eq!(rt; states.len(), 2);
-    assert!(rt; is_state(states, 0, "BLOCKED", 14, true));
-    assert!(rt; is_state(states, 1, "WARNING", 7, false));
+    let checked = overdue(rt.alloc(), OVERDUE)?;
+    are_the_shops(&rt, &checked);
     Ok(())
+}
+
+fn are_the_shops(rt: &impl Abort, checked: &CheckedOverdue) {
+    same(rt, &checked.text(), &OVERDUE.as_bytes(), &"the text");
+    let states = checked.config().states();
+    let found = (
+        states.len(),
+        is_state(states, 0, "BLOCKED", 14, true),
+        is_state(states, 1, "WARNING", 7, false),
+    );
+    same(rt, &found, &(2, true, true), &"the shop's states");
 }
 
 /// Whether the state at a place has this name and number of days, no other condition, and blocks changes and
@@ -39,11 +47,14 @@ fn is_state(states: &[OverdueState], place: usize, name: &str, days: u64, blocks
 #[test]
 fn a_text_may_have_no_state(rt: HostRuntime) -> Result<(), Fail> {
     for text in ["", "# none", "state = []"] {
-        let bytes = text.as_bytes().to_vec(rt.alloc())?;
-        let checked = read_overdue(rt.alloc(), bytes).ok().ok_or("a valid text")?;
-        assert_eq!(rt; checked.config().states().len(), 0, "{text}");
+        same(&rt, &states_in(rt.alloc(), text)?, &0, &text);
     }
     Ok(())
+}
+
+/// How many states a text has.
+fn states_in(alloc: Global, text: &str) -> Result<usize, SampleFault> {
+    Ok(overdue(alloc, text)?.config().states().len())
 }
 
 #[test]
@@ -86,10 +97,9 @@ fn changes_to_the_states(rt: HostRuntime) -> Result<(), Fail> {
         ("state = [", "states = [", "4 states"),
         ("state = [", "colour = 1\nstate = [", "4 colour"),
     ];
-    for (old, new, answer) in &ROWS {
-        let text = changed(rt.alloc(), OVERDUE, old, new)?;
-        let told = told_overdue(rt.alloc(), text.as_bytes())?;
-        assert_eq!(rt; told.as_str(), *answer, "{old} -> {new}");
+    for row in &ROWS {
+        let text = changed(rt.alloc(), OVERDUE, row.0, row.1)?;
+        overdue_is_told(&rt, rt.alloc(), text.as_bytes(), row.2, row)?;
     }
     Ok(())
 }
@@ -119,8 +129,7 @@ fn texts_of_states(rt: HostRuntime) -> Result<(), Fail> {
         ),
     ];
     for (text, answer) in &ROWS {
-        let told = told_overdue(rt.alloc(), text.as_bytes())?;
-        assert_eq!(rt; told.as_str(), *answer, "{text}");
+        overdue_is_told(&rt, rt.alloc(), text.as_bytes(), answer, text)?;
     }
     Ok(())
 }
@@ -129,17 +138,17 @@ fn texts_of_states(rt: HostRuntime) -> Result<(), Fail> {
 fn sixteen_states_at_most(rt: HostRuntime) -> Result<(), Fail> {
     for (count, answer) in [(1, "ok"), (16, "ok"), (17, "5 1 16"), (40, "5 1 16")] {
         let text = so_many(rt.alloc(), count)?;
-        let told = told_overdue(rt.alloc(), text.as_bytes())?;
-        assert_eq!(rt; told.as_str(), answer, "{count}");
+        overdue_is_told(&rt, rt.alloc(), text.as_bytes(), answer, &count)?;
     }
     Ok(())
 }
 
-fn so_many(alloc: Global, count: u32) -> Result<String, Fail> {
+const BLOCKS: &str = "block_change=true\nblock_entitlement=true\nblock_billing=true\n";
+
+fn so_many(alloc: Global, count: u32) -> Result<String, SampleFault> {
     let mut text = String::new(alloc);
     for number in 0..count {
-        write!(text, "[[state]]\nname='S{number}'\ndays=1\n")?;
-        text.push_str("block_change=true\nblock_entitlement=true\nblock_billing=true\n")?;
+        write!(text, "[[state]]\nname='S{number}'\ndays=1\n{BLOCKS}")?;
     }
     Ok(text)
 }

@@ -1,16 +1,17 @@
 //! Each rule of a version is told by its number and its first offender: the shop with a part more, or with
 //! another one. The rows are read by the tests of the shop's text.
 
+use crate::compare::same;
 use kb_catalog::Rule;
 
 #[test]
 fn the_rules_are_numbered(rt: HostRuntime) {
     let mut number = 0;
     for rule in Rule::ALL {
-        assert!(rt; rule.number() > number, "{}", rule.number());
+        same(&rt, &(rule.number() > number), &true, &number);
         number = rule.number();
     }
-    assert_eq!(rt; number, 12);
+    same(&rt, &number, &12, &"the last rule");
 }
 
 pub(crate) const RULES_OF_CURRENCIES: [(&str, &str, &str); 5] = [

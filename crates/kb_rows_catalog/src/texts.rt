@@ -6,12 +6,13 @@ mod keys;
 mod order;
 mod values;
 
+use crate::compare::same;
 use crate::rules;
-use crate::told::{changed, changes_are_told, texts_are_told, told, told_overdue};
+use crate::told::{changed, changes_are_told, is_told, overdue_is_told, split, texts_are_told};
 use kb_catalog::{PhaseType, Version};
-use kb_catalog_text::{MAX_BYTES, read};
+use kb_catalog_text::{Checked, MAX_BYTES, read};
 use kb_days::{Count, Span};
-use kb_samples::{OVERDUE, SHOP, day};
+use kb_samples::{OVERDUE, SHOP, SampleFault, day};
 use std::alloc::Global;
 use std::process::Abort;
 use std::test::Fail;
@@ -19,19 +20,31 @@ use std::test::Fail;
 #[test]
 fn the_shop_is_read(rt: HostRuntime) -> Result<(), Fail> {
     let bytes = SHOP.as_bytes().to_vec(rt.alloc())?;
-    let checked = read(rt.alloc(), bytes).ok().ok_or("a valid text")?;
-    assert_eq!(rt; checked.text(), SHOP.as_bytes());
-    is_the_shop(&rt, checked.version().version())
+    let checked = read(rt.alloc(), bytes).ok().ok_or(SampleFault::Catalog)?;
+    Ok(is_read(&rt, &checked)?)
 }
 
-fn is_the_shop(rt: &impl Abort, version: &Version) -> Result<(), Fail> {
-    let counts = (version.products.len(), version.plans.len());
-    assert_eq!(rt; counts, (6, 7));
-    assert!(rt; version.effective == day("2020-01-01")?);
-    assert!(rt; has_one_list_and_currency(version));
-    assert!(rt; has_shop_rules(version));
-    assert!(rt; begins_with_trial(version, 2));
-    assert!(rt; !begins_with_trial(version, 0));
+fn is_read(rt: &impl Abort, checked: &Checked) -> Result<(), SampleFault> {
+    same(rt, &checked.text(), &SHOP.as_bytes(), &"the text");
+    is_the_shop(rt, checked.version().version())
+}
+
+fn is_the_shop(rt: &impl Abort, version: &Version) -> Result<(), SampleFault> {
+    let counts = (
+        version.products.len(),
+        version.plans.len(),
+        version.effective,
+    );
+    same(
+        rt,
+        &counts,
+        &(6, 7, day("2020-01-01")?),
+        &"counts and the first day",
+    );
+    let parts = (has_one_list_and_currency(version), has_shop_rules(version));
+    same(rt, &parts, &(true, true), &"lists and rules");
+    let trials = (begins_with_trial(version, 2), begins_with_trial(version, 0));
+    same(rt, &trials, &(true, false), &"trials");
     Ok(())
 }
 
@@ -159,11 +172,16 @@ fn pieces_of_the_shop(rt: HostRuntime) -> Result<(), Fail> {
         ),
     ];
     for (piece, begin, rows) in TABLES {
-        let (before, after) = SHOP.split_once(piece).ok_or("the piece")?;
-        let before = format!(in rt.alloc(); "{before}{begin}")?;
-        texts_are_told(&rt, rt.alloc(), before.as_str(), after, rows)?;
+        pieces_are_told(&rt, rt.alloc(), (piece, begin, rows))?;
     }
     Ok(())
+}
+
+fn pieces_are_told(rt: &impl Abort, alloc: Global, pieces: Pieces) -> Result<(), SampleFault> {
+    let (piece, begin, rows) = pieces;
+    let (before, after) = split(SHOP, piece)?;
+    let before = format!(in alloc; "{before}{begin}")?;
+    texts_are_told(rt, alloc, before.as_str(), after, rows)
 }
 
 #[test]
@@ -173,28 +191,26 @@ fn as_long_as_may_be(rt: HostRuntime) -> Result<(), Fail> {
         (MAX_BYTES + 1, "7 60001"),
         (MAX_BYTES + 5_000, "7 65000"),
     ] {
-        let catalog = filled_up(rt.alloc(), SHOP, length)?;
-        let told = told(rt.alloc(), catalog.as_slice())?;
-        assert_eq!(rt; told.as_str(), answer, "a catalog of {length}");
-        overdue_is_told(&rt, rt.alloc(), length, answer)?;
+        is_answered(&rt, rt.alloc(), length, answer)?;
     }
     Ok(())
 }
 
-fn overdue_is_told(
+/// A catalog and overdue states, filled up to this length, are told of so.
+fn is_answered(
     rt: &impl Abort,
     alloc: Global,
     length: usize,
     answer: &str,
-) -> Result<(), Fail> {
+) -> Result<(), SampleFault> {
+    let catalog = filled_up(alloc, SHOP, length)?;
+    is_told(rt, alloc, catalog.as_slice(), answer, &length)?;
     let states = filled_up(alloc, OVERDUE, length)?;
-    let told = told_overdue(alloc, states.as_slice())?;
-    assert_eq!(rt; told.as_str(), answer, "overdue states of {length}");
-    Ok(())
+    overdue_is_told(rt, alloc, states.as_slice(), answer, &length)
 }
 
 /// The bytes of a text, filled up with spaces to this length.
-fn filled_up(alloc: Global, text: &str, length: usize) -> Result<Vec<u8>, Fail> {
+fn filled_up(alloc: Global, text: &str, length: usize) -> Result<Vec<u8>, SampleFault> {
     let mut bytes = text.as_bytes().to_vec(alloc)?;
     bytes.resize(length, b' ')?;
     Ok(bytes)

@@ -1,37 +1,54 @@
 //! What is told of texts that are read, and of changed ones.
 
-use kb_catalog::Valid;
-use kb_catalog_text::{TextFault, read, read_overdue};
+use crate::compare::same;
+use kb_catalog::{Catalog, Valid};
+use kb_catalog_text::{CheckedOverdue, TextFault, read, read_overdue};
+use kb_samples::SampleFault;
 use std::alloc::Global;
+use std::fmt::Debug;
 use std::process::Abort;
-use std::test::Fail;
 
 /// The version that a catalog text says.
-pub(crate) fn valid(alloc: Global, text: &str) -> Result<Valid, Fail> {
-    match read(alloc, text.as_bytes().to_vec(alloc)?) {
-        Ok(checked) => Ok(checked.into_parts().1),
-        Err(_) => Err("a valid text".into()),
+pub(crate) fn valid(alloc: Global, text: &str) -> Result<Valid, SampleFault> {
+    let checked = read(alloc, text.as_bytes().to_vec(alloc)?).ok();
+    Ok(checked.ok_or(SampleFault::Catalog)?.into_parts().1)
+}
+
+/// The first version of a catalog.
+pub(crate) fn first(catalog: &Catalog) -> Result<&Valid, SampleFault> {
+    if catalog.len() == 0 {
+        return Err(SampleFault::Catalog);
     }
+    Ok(catalog.version(0))
+}
+
+/// The states that an overdue text says.
+pub(crate) fn overdue(alloc: Global, text: &str) -> Result<CheckedOverdue, SampleFault> {
+    let checked = read_overdue(alloc, text.as_bytes().to_vec(alloc)?).ok();
+    checked.ok_or(SampleFault::Catalog)
 }
 
 /// What is told of a catalog text: `ok`, or the number of its fault with the key, the rule and place, or the
 /// length.
-pub(crate) fn told(alloc: Global, text: &[u8]) -> Result<String, Fail> {
-    match read(alloc, text.to_vec(alloc)?) {
-        Ok(_) => Ok(String::from_str(alloc, "ok")?),
-        Err(fault) => in_short(alloc, &fault),
-    }
+pub(crate) fn told(alloc: Global, text: &[u8]) -> Result<String, SampleFault> {
+    let fault = read(alloc, text.to_vec(alloc)?).err();
+    in_short(alloc, &fault)
 }
 
 /// What is told of an overdue text, in the same way.
-pub(crate) fn told_overdue(alloc: Global, text: &[u8]) -> Result<String, Fail> {
-    match read_overdue(alloc, text.to_vec(alloc)?) {
-        Ok(_) => Ok(String::from_str(alloc, "ok")?),
-        Err(fault) => in_short(alloc, &fault),
+pub(crate) fn told_overdue(alloc: Global, text: &[u8]) -> Result<String, SampleFault> {
+    let fault = read_overdue(alloc, text.to_vec(alloc)?).err();
+    in_short(alloc, &fault)
+}
+
+fn in_short(alloc: Global, fault: &Option<TextFault>) -> Result<String, SampleFault> {
+    match fault {
+        None => Ok(String::from_str(alloc, "ok")?),
+        Some(fault) => numbered(alloc, fault),
     }
 }
 
-fn in_short(alloc: Global, fault: &TextFault) -> Result<String, Fail> {
+fn numbered(alloc: Global, fault: &TextFault) -> Result<String, SampleFault> {
     let number = fault.number();
     match fault {
         TextFault::Missing(key) => with_key(alloc, number, key.as_slice()),
@@ -43,15 +60,49 @@ fn in_short(alloc: Global, fault: &TextFault) -> Result<String, Fail> {
     }
 }
 
-fn with_key(alloc: Global, number: u32, key: &[u8]) -> Result<String, Fail> {
-    let key = std::str::from_utf8(key)?;
+fn with_key(alloc: Global, number: u32, key: &[u8]) -> Result<String, SampleFault> {
+    let key = std::str::from_utf8(key).ok().ok_or(SampleFault::Word)?;
     Ok(format!(in alloc; "{number} {key}")?)
 }
 
+/// A catalog text is told of as its row says.
+pub(crate) fn is_told<R: Debug>(
+    rt: &impl Abort,
+    alloc: Global,
+    text: &[u8],
+    answer: &str,
+    row: &R,
+) -> Result<(), SampleFault> {
+    same(rt, &told(alloc, text)?.as_str(), &answer, row);
+    Ok(())
+}
+
+/// An overdue text is told of as its row says.
+pub(crate) fn overdue_is_told<R: Debug>(
+    rt: &impl Abort,
+    alloc: Global,
+    text: &[u8],
+    answer: &str,
+    row: &R,
+) -> Result<(), SampleFault> {
+    same(rt, &told_overdue(alloc, text)?.as_str(), &answer, row);
+    Ok(())
+}
+
 /// A text in which the first piece of this kind is another one.
-pub(crate) fn changed(alloc: Global, text: &str, old: &str, new: &str) -> Result<String, Fail> {
-    let (before, after) = text.split_once(old).ok_or("the piece")?;
+pub(crate) fn changed(
+    alloc: Global,
+    text: &str,
+    old: &str,
+    new: &str,
+) -> Result<String, SampleFault> {
+    let (before, after) = split(text, old)?;
     Ok(format!(in alloc; "{before}{new}{after}")?)
+}
+
+/// What stands before the first piece of this kind, and what behind it.
+pub(crate) fn split<'a>(text: &'a str, piece: &str) -> Result<(&'a str, &'a str), SampleFault> {
+    text.split_once(piece).ok_or(SampleFault::Word)
 }
 
 /// A text in which what stands from one piece up to another is something else.
@@ -61,9 +112,9 @@ pub(crate) fn replaced(
     from: &str,
     to: &str,
     new: &str,
-) -> Result<String, Fail> {
-    let (before, rest) = text.split_once(from).ok_or("where it begins")?;
-    let (_, after) = rest.split_once(to).ok_or("where it ends")?;
+) -> Result<String, SampleFault> {
+    let (before, rest) = split(text, from)?;
+    let (_, after) = split(rest, to)?;
     Ok(format!(in alloc; "{before}{new}{to}{after}")?)
 }
 
@@ -73,11 +124,10 @@ pub(crate) fn changes_are_told(
     alloc: Global,
     text: &str,
     rows: &[(&str, &str, &str)],
-) -> Result<(), Fail> {
-    for (old, new, answer) in rows {
-        let text = changed(alloc, text, old, new)?;
-        let told = told(alloc, text.as_bytes())?;
-        assert_eq!(rt; told.as_str(), *answer, "{old} -> {new}");
+) -> Result<(), SampleFault> {
+    for row in rows {
+        let text = changed(alloc, text, row.0, row.1)?;
+        is_told(rt, alloc, text.as_bytes(), row.2, row)?;
     }
     Ok(())
 }
@@ -89,11 +139,10 @@ pub(crate) fn texts_are_told(
     before: &str,
     after: &str,
     rows: &[(&str, &str)],
-) -> Result<(), Fail> {
+) -> Result<(), SampleFault> {
     for (piece, answer) in rows {
         let text = format!(in alloc; "{before}{piece}{after}")?;
-        let told = told(alloc, text.as_bytes())?;
-        assert_eq!(rt; told.as_str(), *answer, "{piece}");
+        is_told(rt, alloc, text.as_bytes(), answer, piece)?;
     }
     Ok(())
 }

@@ -1,8 +1,11 @@
 //! What the rules of a change give.
 
 use super::{ask, two_lists};
-use kb_catalog::{Align, Category, ChangeAsk, PhaseType, Policy, Valid};
+use crate::compare::same;
+use crate::told::first;
+use kb_catalog::{Align, Catalog, Category, ChangeAsk, PhaseType, Policy, Valid};
 use kb_days::Period;
+use kb_samples::SampleFault;
 use std::process::Abort;
 use std::test::Fail;
 
@@ -116,29 +119,27 @@ const ROWS: [Row; 11] = [
 
 #[test]
 fn policies_and_alignments_of_changes(rt: HostRuntime) -> Result<(), Fail> {
-    let version = two_lists(rt.alloc())?;
-    changes_are_decided(&rt, &version)
+    let catalog = two_lists(rt.alloc())?;
+    Ok(changes_are_decided(&rt, &catalog)?)
 }
 
-fn changes_are_decided(rt: &impl Abort, version: &Valid) -> Result<(), Fail> {
+fn changes_are_decided(rt: &impl Abort, catalog: &Catalog) -> Result<(), SampleFault> {
+    let version = first(catalog)?;
     for row in &ROWS {
         change_is_decided(rt, version, row)?;
     }
     Ok(())
 }
 
-fn change_is_decided(rt: &impl Abort, version: &Valid, row: &Row) -> Result<(), Fail> {
+fn change_is_decided(rt: &impl Abort, version: &Valid, row: &Row) -> Result<(), SampleFault> {
     let (product, category, phase, other, period, list, decided) = *row;
     let from = ask(product, category, MONTHLY, "DEFAULT", phase)?;
     let to = ask(other, Some(Category::Base), period, list, TRIAL)?;
     let change = ChangeAsk { from, to };
-    assert_eq!(rt;
-        (
-            version.change_policy(&change),
-            version.change_alignment(&change)
-        ),
-        decided,
-        "{product} to {other} by {list}"
+    let found = (
+        version.change_policy(&change),
+        version.change_alignment(&change),
     );
+    same(rt, &found, &decided, row);
     Ok(())
 }

@@ -1,8 +1,11 @@
 //! What the rules of one plan give.
 
 use super::{ask, two_lists};
-use kb_catalog::{BillingAlign, Category, CreateAlign, PhaseType, Policy, Valid};
+use crate::compare::same;
+use crate::told::first;
+use kb_catalog::{BillingAlign, Catalog, Category, CreateAlign, PhaseType, Policy, Valid};
 use kb_days::Period;
+use kb_samples::SampleFault;
 use std::process::Abort;
 use std::test::Fail;
 
@@ -57,23 +60,24 @@ const ROWS: [Row; 8] = [
 
 #[test]
 fn rules_of_one_plan(rt: HostRuntime) -> Result<(), Fail> {
-    let version = two_lists(rt.alloc())?;
-    plans_are_decided(&rt, &version)
+    let catalog = two_lists(rt.alloc())?;
+    Ok(plans_are_decided(&rt, &catalog)?)
 }
 
-fn plans_are_decided(rt: &impl Abort, version: &Valid) -> Result<(), Fail> {
+fn plans_are_decided(rt: &impl Abort, catalog: &Catalog) -> Result<(), SampleFault> {
+    let version = first(catalog)?;
     for row in &ROWS {
         plan_is_decided(rt, version, row)?;
     }
     Ok(())
 }
 
-fn plan_is_decided(rt: &impl Abort, version: &Valid, row: &Row) -> Result<(), Fail> {
+fn plan_is_decided(rt: &impl Abort, version: &Valid, row: &Row) -> Result<(), SampleFault> {
     let (product, category, list, phase, decided) = *row;
     let plan = ask(product, category, Period::Monthly, list, phase)?;
     let policy = version.cancel_policy(&plan);
     let start = version.create_alignment(&plan);
     let billing = version.billing_alignment(&plan);
-    assert_eq!(rt; (policy, start, billing), decided, "{product} by {list}");
+    same(rt, &(policy, start, billing), &decided, row);
     Ok(())
 }

@@ -1,10 +1,13 @@
 //! What the shop's own rules give.
 
 use super::ask;
-use crate::told::valid;
-use kb_catalog::{Align, BillingAlign, Category, ChangeAsk, CreateAlign, PlanAsk, Policy, Valid};
+use crate::compare::same;
+use crate::told::first;
+use kb_catalog::{
+    Align, BillingAlign, Catalog, Category, ChangeAsk, CreateAlign, PlanAsk, Policy, Valid,
+};
 use kb_days::Period;
-use kb_samples::SHOP;
+use kb_samples::{SHOP, SampleFault, catalog};
 use std::process::Abort;
 use std::test::Fail;
 
@@ -64,31 +67,29 @@ const ROWS: [Row; 5] = [
 
 #[test]
 fn rules_of_the_shop(rt: HostRuntime) -> Result<(), Fail> {
-    let version = valid(rt.alloc(), SHOP)?;
-    shop_rules_decide(&rt, &version)
+    let catalog = catalog(rt.alloc(), &[SHOP])?;
+    Ok(shop_rules_decide(&rt, &catalog)?)
 }
 
-fn shop_rules_decide(rt: &impl Abort, version: &Valid) -> Result<(), Fail> {
+fn shop_rules_decide(rt: &impl Abort, catalog: &Catalog) -> Result<(), SampleFault> {
+    let version = first(catalog)?;
     for row in &ROWS {
         shop_decides(rt, version, row)?;
     }
     Ok(())
 }
 
-fn shop_decides(rt: &impl Abort, version: &Valid, row: &Row) -> Result<(), Fail> {
+fn shop_decides(rt: &impl Abort, version: &Valid, row: &Row) -> Result<(), SampleFault> {
     let (product, category, other, period, policy, alone) = *row;
     let from = ask(product, category, Period::Annual, "DEFAULT", None)?;
     let to = ask(other, None, period, "DEFAULT", None)?;
     shop_decides_alone(rt, version, &from, alone);
     let change = ChangeAsk { from, to };
-    assert_eq!(rt;
-        (
-            version.change_policy(&change),
-            version.change_alignment(&change)
-        ),
-        (policy, Align::StartOfSubscription),
-        "{product} to {other}"
+    let found = (
+        version.change_policy(&change),
+        version.change_alignment(&change),
     );
+    same(rt, &found, &(policy, Align::StartOfSubscription), row);
     Ok(())
 }
 
@@ -100,6 +101,7 @@ fn shop_decides_alone(
 ) {
     let policy = version.cancel_policy(plan);
     let start = version.create_alignment(plan);
-    assert_eq!(rt; (policy, start), decided, "{}", plan.product.as_str());
-    assert_eq!(rt; version.billing_alignment(plan), BillingAlign::Account);
+    let billing = version.billing_alignment(plan);
+    let wanted = (decided.0, decided.1, BillingAlign::Account);
+    same(rt, &(policy, start, billing), &wanted, &plan.product);
 }

@@ -1,6 +1,7 @@
 //! Whatever the bytes of a text, an answer is told.
 
-use crate::told::{told, told_overdue};
+use crate::told::{is_told, overdue_is_told};
+use kb_samples::SampleFault;
 use std::alloc::{AllocError, Global};
 use std::process::Abort;
 use std::test::Fail;
@@ -23,17 +24,18 @@ fn few_bytes(rt: HostRuntime) -> Result<(), Fail> {
         (b"format", "1", "1"),
     ];
     for (bytes, catalog, overdue) in &ROWS {
-        let told = told(rt.alloc(), bytes)?;
-        assert_eq!(rt; told.as_str(), *catalog, "{bytes:?}");
-        overdue_is_told(&rt, rt.alloc(), bytes, overdue)?;
+        is_told(&rt, rt.alloc(), bytes, catalog, bytes)?;
+        overdue_is_told(&rt, rt.alloc(), bytes, overdue, bytes)?;
     }
     Ok(())
 }
 
+/// A piece, how many times it stands, and the answers as a catalog text and as an overdue text.
+type Repeated = (&'static str, u32, &'static str, &'static str);
+
 #[test]
 fn many_bytes(rt: HostRuntime) -> Result<(), Fail> {
-    // a piece, how many times it stands, and the answers
-    const ROWS: [(&str, u32, &str, &str); 16] = [
+    const ROWS: [Repeated; 16] = [
         ("[", 60_000, "1", "1"),
         ("[", 60_001, "7 60001", "7 60001"),
         ("]", 60_000, "1", "1"),
@@ -51,21 +53,18 @@ fn many_bytes(rt: HostRuntime) -> Result<(), Fail> {
         ("[[state]]\n", 1_000, "4 state", "2 name"),
         ("é", 30_000, "1", "1"),
     ];
-    for (piece, times, catalog, overdue) in &ROWS {
-        let mut text = String::new(rt.alloc());
-        push_repeated(&mut text, piece, *times)?;
-        let told = told(rt.alloc(), text.as_bytes())?;
-        assert_eq!(rt; told.as_str(), *catalog, "{piece} {times}");
-        overdue_is_told(&rt, rt.alloc(), text.as_bytes(), overdue)?;
+    for row in &ROWS {
+        repeated_is_told(&rt, rt.alloc(), row)?;
     }
     Ok(())
 }
 
-fn overdue_is_told(rt: &impl Abort, alloc: Global, bytes: &[u8], answer: &str) -> Result<(), Fail> {
-    let told = told_overdue(alloc, bytes)?;
-    let begin = bytes.get(..12).unwrap_or(bytes);
-    assert_eq!(rt; told.as_str(), answer, "{begin:?} of {}", bytes.len());
-    Ok(())
+fn repeated_is_told(rt: &impl Abort, alloc: Global, row: &Repeated) -> Result<(), SampleFault> {
+    let (piece, times, catalog, overdue) = *row;
+    let mut text = String::new(alloc);
+    push_repeated(&mut text, piece, times)?;
+    is_told(rt, alloc, text.as_bytes(), catalog, row)?;
+    overdue_is_told(rt, alloc, text.as_bytes(), overdue, row)
 }
 
 #[test]
@@ -80,16 +79,15 @@ fn deep_values(rt: HostRuntime) -> Result<(), Fail> {
         ("{a=", "}", 1_000, "1"),
         ("[", "]", 29_000, "1"),
     ];
-    for (open, close, times, answer) in &ROWS {
-        let text = deep_state(rt.alloc(), open, close, *times)?;
-        let told = told_overdue(rt.alloc(), text.as_bytes())?;
-        assert_eq!(rt; told.as_str(), *answer, "{open} {times}");
+    for row in &ROWS {
+        let text = deep_state(rt.alloc(), row.0, row.1, row.2)?;
+        overdue_is_told(&rt, rt.alloc(), text.as_bytes(), row.3, row)?;
     }
     Ok(())
 }
 
 /// An overdue text whose value lies so deep.
-fn deep_state(alloc: Global, open: &str, close: &str, times: u32) -> Result<String, Fail> {
+fn deep_state(alloc: Global, open: &str, close: &str, times: u32) -> Result<String, SampleFault> {
     let mut text = String::from_str(alloc, "state=")?;
     push_repeated(&mut text, open, times)?;
     text.push('1')?;

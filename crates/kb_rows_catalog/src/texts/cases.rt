@@ -1,17 +1,28 @@
 //! The cases of the five rule lists: each condition, and what a case gives.
 
-use crate::told::{changed, told};
-use kb_samples::SHOP;
+use crate::told::{is_told, split};
+use kb_samples::{SHOP, SampleFault};
 use std::alloc::Global;
 use std::process::Abort;
 use std::test::Fail;
 
-/// What is told of the shop with another case before those of a rule list.
-fn told_with(alloc: Global, list: &str, case: &str) -> Result<String, Fail> {
-    let old = format!(in alloc; "{list} = [")?;
-    let new = format!(in alloc; "{list} = [{{{case}}}, ")?;
-    let text = changed(alloc, SHOP, old.as_str(), new.as_str())?;
-    told(alloc, text.as_bytes())
+/// The shop with another case before those of a rule list.
+fn with_case(alloc: Global, list: &str, case: &str) -> Result<String, SampleFault> {
+    let (before, rest) = split(SHOP, list)?;
+    let (begin, after) = split(rest, "[")?;
+    Ok(format!(in alloc; "{before}{list}{begin}[{{{case}}}, {after}")?)
+}
+
+/// The shop with another case is told of as its row says.
+fn case_is_told(
+    rt: &impl Abort,
+    alloc: Global,
+    list: &str,
+    case: &str,
+    answer: &str,
+) -> Result<(), SampleFault> {
+    let text = with_case(alloc, list, case)?;
+    is_told(rt, alloc, text.as_bytes(), answer, &(list, case))
 }
 
 /// Each key of a case with a fitting value, and with others.
@@ -21,11 +32,10 @@ fn conditions_are_told(
     list: &str,
     gives: &str,
     keys: &[(&str, &str)],
-) -> Result<(), Fail> {
+) -> Result<(), SampleFault> {
     for (key, value) in keys {
         let case = format!(in alloc; "{key}={value}, {gives}")?;
-        let told = told_with(alloc, list, case.as_str())?;
-        assert_eq!(rt; told.as_str(), "ok", "{list}: {case}");
+        case_is_told(rt, alloc, list, case.as_str(), "ok")?;
         wrong_condition_is_told(rt, alloc, list, gives, key)?;
     }
     Ok(())
@@ -37,12 +47,11 @@ fn wrong_condition_is_told(
     list: &str,
     gives: &str,
     key: &str,
-) -> Result<(), Fail> {
+) -> Result<(), SampleFault> {
     let answer = format!(in alloc; "3 {key}")?;
     for value in ["5", "['TRIAL']", "{}", "'a b'"] {
         let case = format!(in alloc; "{key}={value}, {gives}")?;
-        let told = told_with(alloc, list, case.as_str())?;
-        assert_eq!(rt; told.as_str(), answer.as_str(), "{list}: {case}");
+        case_is_told(rt, alloc, list, case.as_str(), answer.as_str())?;
     }
     Ok(())
 }
@@ -186,8 +195,7 @@ fn what_a_case_gives(rt: HostRuntime) -> Result<(), Fail> {
         ),
     ];
     for (list, case, answer) in &ROWS {
-        let told = told_with(rt.alloc(), list, case)?;
-        assert_eq!(rt; told.as_str(), *answer, "{list}: {case}");
+        case_is_told(&rt, rt.alloc(), list, case, answer)?;
     }
     Ok(())
 }

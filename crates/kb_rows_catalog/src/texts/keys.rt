@@ -1,6 +1,6 @@
 //! Each key of each table but the cases: missing, of a wrong kind, or beside an unknown one.
 
-use crate::told::{replaced, told};
+use crate::told::{is_told, replaced};
 use kb_samples::SHOP;
 use std::test::Fail;
 
@@ -134,10 +134,9 @@ fn arrays_and_tables_of_the_top_and_the_rules(rt: HostRuntime) -> Result<(), Fai
         ),
         ("[rules]", "change", "[rules]\ncolour = 1\n", "4 colour"),
     ];
-    for (from, to, new, answer) in &ROWS {
-        let text = replaced(rt.alloc(), SHOP, from, to, new)?;
-        let told = told(rt.alloc(), text.as_bytes())?;
-        assert_eq!(rt; told.as_str(), *answer, "{from} .. {to} -> {new}");
+    for row in &ROWS {
+        let text = replaced(rt.alloc(), SHOP, row.0, row.1, row.2)?;
+        is_told(&rt, rt.alloc(), text.as_bytes(), row.3, row)?;
     }
     Ok(())
 }
