@@ -1,12 +1,13 @@
 //! Worked accounts, day by day: what is due, and what is charged once.
 
-use crate::accounts::{Told, facts, found, wanted};
+use crate::accounts::{Parts, Told, cells_on, found, is_there, wanted};
+use crate::cases::{Case, Held, Row, hold};
+use crate::compare::same;
 use crate::steps::{add_on, block, cancel, change, create};
 use kb_blocking::Scope;
 use kb_days::{END_OF_DAYS, LAST_CHARGED, LAST_REACH, Reach};
-use kb_due::{Facts, due_on, fee_on};
-use kb_samples::{Account, Anchor, CLUB, DEARER_CLUB, Step, catalog, day, reach};
-use std::alloc::Global;
+use kb_due::{Cell, Facts};
+use kb_samples::{Anchor, CLUB, DEARER_CLUB, SampleFault, day, reach};
 use std::process::Abort;
 use std::test::Fail;
 
@@ -16,33 +17,25 @@ const ACCOUNT: Scope = Scope::Account;
 
 const FIRST: Scope = Scope::Subscription(0);
 
-/// A row: the subscription, the billed date, the day, and its cell.
-type Row = (u32, &'static str, &'static str, Option<Told>);
-
-/// An account: the versions of its catalog, its cycle day, its steps, and rows.
-struct Case {
-    texts: &'static [&'static str],
-    bcd: u32,
-    steps: &'static [Step],
-    rows: &'static [Row],
-}
-
-/// Holds due cells, or fee cells, of an account against its rows.
-fn holds(rt: &impl Abort, alloc: Global, case: &Case, fees: bool) -> Result<(), Fail> {
-    let catalog = catalog(alloc, case.texts)?;
-    let account = Account::of(alloc, &catalog, case.steps)?;
-    let facts = facts(&catalog, &account, case.bcd)?;
-    for (sub, billed, date, cell) in case.rows {
-        let (sub, day_of) = (*sub, reach(date)?);
-        assert!(rt; sub < facts.timeline.len());
-        let at = if fees {
-            fee_on(&facts, sub, day(billed)?, day_of)
-        } else {
-            due_on(&facts, sub, day(billed)?, day_of)
-        };
-        assert_eq!(rt; found(&facts, at)?, wanted(*cell)?, "{sub} {billed} {date}");
+/// Due cells, or fee cells, are as rows say.
+pub(crate) fn rows_hold(
+    rt: &impl Abort,
+    facts: &Facts,
+    rows: &[Row],
+    fees: bool,
+) -> Result<(), SampleFault> {
+    for row in rows {
+        same(rt, &cell_of(facts, row, fees)?, &wanted(row.3)?, row);
     }
     Ok(())
+}
+
+/// The due cell, or the fee cell, that a row asks for.
+fn cell_of(facts: &Facts, row: &Row, fees: bool) -> Result<Option<Parts>, SampleFault> {
+    let (sub, billed, date, _) = *row;
+    is_there(facts, sub)?;
+    let (due, fee) = cells_on(facts, sub, day(billed)?, reach(date)?);
+    found(facts, if fees { fee } else { due })
 }
 
 const JANUARY: Option<Told> = Some(("Basic", 0, "2024-01-31", "2024-02-29", 1000));
@@ -52,12 +45,12 @@ const FEBRUARY: Option<Told> = Some(("Basic", 0, "2024-02-29", "2024-03-31", 100
 const STARTED: Option<Told> = Some(("Starter", 1, "2024-02-01", "2024-03-01", 1000));
 
 /// From 31 January on, by the 31st; and from 15 January on with a trial of 30 days, by the 1st.
-const PERIODS: [Case; 2] = [
+static PERIODS: [Case; 2] = [
     Case {
         texts: &[CLUB],
         bcd: 31,
         steps: &[create!("Basic", "2024-01-31")],
-        rows: &[
+        held: Held::Due(&[
             (0, "2024-01-30", "2024-01-31", None),
             (0, "2024-01-31", "2024-01-30", None),
             (0, "2024-01-31", "2024-01-31", JANUARY),
@@ -66,29 +59,26 @@ const PERIODS: [Case; 2] = [
             (0, "2024-02-29", "2024-02-29", FEBRUARY),
             (0, "2024-02-29", "2024-03-30", FEBRUARY),
             (0, "2024-02-29", "2024-03-31", None),
-        ],
+        ]),
     },
     Case {
         texts: &[CLUB],
         bcd: 1,
         steps: &[create!("Starter", "2024-01-15")],
-        rows: &[
+        held: Held::Due(&[
             (0, "2024-02-13", "2024-02-13", None),
             (0, "2024-02-13", "2024-02-14", None),
             (0, "2024-02-14", "2024-02-13", None),
             (0, "2024-02-14", "2024-02-14", STARTED),
             (0, "2024-02-14", "2024-02-29", STARTED),
             (0, "2024-02-14", "2024-03-01", None),
-        ],
+        ]),
     },
 ];
 
 #[test]
 fn periods_that_are_due(rt: HostRuntime) -> Result<(), Fail> {
-    for case in &PERIODS {
-        holds(&rt, rt.alloc(), case, false)?;
-    }
-    Ok(())
+    hold(&rt, rt.alloc(), &PERIODS)
 }
 
 const OWN: Option<Told> = Some(("Own", 1, "2024-02-14", "2024-03-14", 1000));
@@ -98,24 +88,24 @@ const OWN_NEXT: Option<Told> = Some(("Own", 1, "2024-03-14", "2024-04-14", 1000)
 const HELPER: Option<Told> = Some(("Helper", 0, "2024-02-14", "2024-03-14", 100));
 
 /// A lead whose first charged day is 14 February, and an add-on from 20 February on that is billed by it.
-const ALIGNED: Case = Case {
+static ALIGNED: [Case; 1] = [Case {
     texts: &[CLUB],
     bcd: 1,
     steps: &[
         create!("Own", "2024-01-15"),
         add_on!("Helper", "2024-02-20"),
     ],
-    rows: &[
+    held: Held::Due(&[
         (0, "2024-02-14", "2024-02-14", OWN),
         (0, "2024-03-14", "2024-03-14", OWN_NEXT),
         (1, "2024-02-20", "2024-02-20", HELPER),
         (1, "2024-02-20", "2024-03-14", None),
-    ],
-};
+    ]),
+}];
 
 #[test]
 fn cycle_days_by_their_alignment(rt: HostRuntime) -> Result<(), Fail> {
-    holds(&rt, rt.alloc(), &ALIGNED, false)
+    hold(&rt, rt.alloc(), &ALIGNED)
 }
 
 const MARCH: Option<Told> = Some(("Basic", 0, "2024-03-01", "2024-04-01", 1000));
@@ -125,7 +115,7 @@ const APRIL: Option<Told> = Some(("Basic", 0, "2024-04-01", "2024-05-01", 1000))
 const THIRTY_DAYS: Option<Told> = Some(("Thirty", 0, "2024-03-01", "2024-03-31", 15));
 
 /// Two scopes that block days from 10 to 27 March; and a pause of the bundle from 4 to 8 March.
-const BLOCKED: [Case; 2] = [
+static BLOCKED: [Case; 2] = [
     Case {
         texts: &[CLUB],
         bcd: 1,
@@ -136,7 +126,7 @@ const BLOCKED: [Case; 2] = [
             block!(ACCOUNT, "fraud", "2024-03-20", false, false),
             block!(FIRST, "support", "2024-03-28", false, false),
         ],
-        rows: &[
+        held: Held::Due(&[
             (0, "2024-03-25", "2024-03-09", MARCH),
             (0, "2024-03-25", "2024-03-10", None),
             (0, "2024-03-25", "2024-03-20", None),
@@ -147,7 +137,7 @@ const BLOCKED: [Case; 2] = [
             (0, "2024-04-01", "2024-03-28", MARCH),
             (0, "2024-04-01", "2024-04-30", APRIL),
             (0, "2024-04-01", "2024-05-01", None),
-        ],
+        ]),
     },
     Case {
         texts: &[CLUB],
@@ -157,7 +147,7 @@ const BLOCKED: [Case; 2] = [
             block!(BUNDLE, "entitlement-service", "2024-03-04", true, true),
             block!(BUNDLE, "entitlement-service", "2024-03-09", false, false),
         ],
-        rows: &[
+        held: Held::Due(&[
             (0, "2024-03-30", "2024-03-03", THIRTY_DAYS),
             (0, "2024-03-30", "2024-03-04", None),
             (0, "2024-03-30", "2024-03-08", None),
@@ -165,23 +155,20 @@ const BLOCKED: [Case; 2] = [
             (0, "2024-03-30", "2024-03-30", THIRTY_DAYS),
             (0, "2024-03-30", "2024-03-31", None),
             (0, "2024-03-08", "2024-03-09", None),
-        ],
+        ]),
     },
 ];
 
 #[test]
 fn blocked_and_paused_days(rt: HostRuntime) -> Result<(), Fail> {
-    for case in &BLOCKED {
-        holds(&rt, rt.alloc(), case, false)?;
-    }
-    Ok(())
+    hold(&rt, rt.alloc(), &BLOCKED)
 }
 
 const PRO: Option<Told> = Some(("Pro", 0, "2024-03-01", "2024-04-01", 3100));
 
 /// A change on 20 March, before and at its billed date; a change to the same plan, which takes its day away
 /// until the billed date reaches it; and a cancellation.
-const CHANGED: [Case; 3] = [
+static CHANGED: [Case; 3] = [
     Case {
         texts: &[CLUB],
         bcd: 1,
@@ -189,13 +176,13 @@ const CHANGED: [Case; 3] = [
             create!("Basic", "2024-03-01"),
             change!(0, "Pro", "2024-03-20"),
         ],
-        rows: &[
+        held: Held::Due(&[
             (0, "2024-03-10", "2024-03-19", MARCH),
             (0, "2024-03-10", "2024-03-20", None),
             (0, "2024-03-10", "2024-03-31", None),
             (0, "2024-03-20", "2024-03-19", MARCH),
             (0, "2024-03-20", "2024-03-20", PRO),
-        ],
+        ]),
     },
     Case {
         texts: &[CLUB],
@@ -204,29 +191,26 @@ const CHANGED: [Case; 3] = [
             create!("Basic", "2024-03-01"),
             change!(0, "Basic", "2024-03-15"),
         ],
-        rows: &[
+        held: Held::Due(&[
             (0, "2024-03-14", "2024-03-14", MARCH),
             (0, "2024-03-14", "2024-03-15", None),
             (0, "2024-03-15", "2024-03-15", MARCH),
-        ],
+        ]),
     },
     Case {
         texts: &[CLUB],
         bcd: 1,
         steps: &[create!("Basic", "2024-03-01"), cancel!(0, "2024-03-20")],
-        rows: &[
+        held: Held::Due(&[
             (0, "2024-03-25", "2024-03-19", MARCH),
             (0, "2024-03-25", "2024-03-20", None),
-        ],
+        ]),
     },
 ];
 
 #[test]
 fn changes_and_cancellations(rt: HostRuntime) -> Result<(), Fail> {
-    for case in &CHANGED {
-        holds(&rt, rt.alloc(), case, false)?;
-    }
-    Ok(())
+    hold(&rt, rt.alloc(), &CHANGED)
 }
 
 const SUPPORT: Option<Told> = Some(("Support", 0, "2024-03-01", "2024-04-01", 310));
@@ -235,7 +219,7 @@ const EXTRA: Option<Told> = Some(("Extra", 0, "2024-03-01", "2024-04-01", 100));
 
 /// A lead that offers its add-on until 10 March, and again from 21 March on; and an add-on that changes on 21
 /// March to what its lead doesn't offer.
-const OFFERED: [Case; 2] = [
+static OFFERED: [Case; 2] = [
     Case {
         texts: &[CLUB],
         bcd: 1,
@@ -245,13 +229,13 @@ const OFFERED: [Case; 2] = [
             change!(0, "Pro", "2024-03-11"),
             change!(0, "Basic", "2024-03-21"),
         ],
-        rows: &[
+        held: Held::Due(&[
             (0, "2024-03-21", "2024-03-11", PRO),
             (0, "2024-03-21", "2024-03-21", MARCH),
             (1, "2024-03-21", "2024-03-10", SUPPORT),
             (1, "2024-03-21", "2024-03-11", None),
             (1, "2024-03-21", "2024-03-21", None),
-        ],
+        ]),
     },
     Case {
         texts: &[CLUB],
@@ -262,20 +246,17 @@ const OFFERED: [Case; 2] = [
             change!(0, "Pro", "2024-03-11"),
             change!(1, "Support", "2024-03-21"),
         ],
-        rows: &[
+        held: Held::Due(&[
             (1, "2024-03-21", "2024-03-10", EXTRA),
             (1, "2024-03-21", "2024-03-20", EXTRA),
             (1, "2024-03-21", "2024-03-21", None),
-        ],
+        ]),
     },
 ];
 
 #[test]
 fn add_ons_end_with_their_offer(rt: HostRuntime) -> Result<(), Fail> {
-    for case in &OFFERED {
-        holds(&rt, rt.alloc(), case, false)?;
-    }
-    Ok(())
+    hold(&rt, rt.alloc(), &OFFERED)
 }
 
 const MAY: Option<Told> = Some(("Basic", 0, "2024-05-01", "2024-06-01", 1000));
@@ -286,7 +267,7 @@ const STARTED_ANEW: Option<Told> = Some(("Starter", 1, "2024-04-01", "2024-05-01
 
 /// From 1 April on there is a dearer version: who subscribed before keeps the price, and a change takes the
 /// new one. And a change to a plan whose phases are counted anew, from the change on.
-const CHOSEN: [Case; 2] = [
+static CHOSEN: [Case; 2] = [
     Case {
         texts: &[CLUB, DEARER_CLUB],
         bcd: 1,
@@ -294,11 +275,11 @@ const CHOSEN: [Case; 2] = [
             create!("Basic", "2024-03-01"),
             change!(0, "Basic", "2024-05-11"),
         ],
-        rows: &[
+        held: Held::Due(&[
             (0, "2024-04-01", "2024-04-30", APRIL),
             (0, "2024-05-11", "2024-05-10", MAY),
             (0, "2024-05-11", "2024-05-11", DEARER_MAY),
-        ],
+        ]),
     },
     Case {
         texts: &[CLUB],
@@ -307,21 +288,18 @@ const CHOSEN: [Case; 2] = [
             create!("Basic", "2024-03-01"),
             change!(0, "Starter", "2024-03-20", Anchor::Change),
         ],
-        rows: &[
+        held: Held::Due(&[
             (0, "2024-04-19", "2024-03-19", MARCH),
             (0, "2024-04-19", "2024-03-20", None),
             (0, "2024-04-19", "2024-04-18", None),
             (0, "2024-04-19", "2024-04-19", STARTED_ANEW),
-        ],
+        ]),
     },
 ];
 
 #[test]
 fn entries_keep_what_they_chose(rt: HostRuntime) -> Result<(), Fail> {
-    for case in &CHOSEN {
-        holds(&rt, rt.alloc(), case, false)?;
-    }
-    Ok(())
+    hold(&rt, rt.alloc(), &CHOSEN)
 }
 
 const TRIAL_ANEW: Option<Told> = Some(("Starter", 0, "2024-03-20", "2024-03-21", 500));
@@ -330,17 +308,17 @@ const TRIAL: Option<Told> = Some(("Starter", 0, "2024-01-15", "2024-01-16", 500)
 
 /// The fee of a trial from 15 January on; when the account is blocked; when it is cancelled at once; and when
 /// a change begins a trial.
-const FEES: [Case; 4] = [
+static FEES: [Case; 4] = [
     Case {
         texts: &[CLUB],
         bcd: 1,
         steps: &[create!("Starter", "2024-01-15")],
-        rows: &[
+        held: Held::Fees(&[
             (0, "2024-01-15", "2024-01-15", TRIAL),
             (0, "2024-01-14", "2024-01-15", None),
             (0, "2024-03-25", "2024-01-16", None),
             (0, "2024-03-25", "2024-02-14", None),
-        ],
+        ]),
     },
     Case {
         texts: &[CLUB],
@@ -349,13 +327,13 @@ const FEES: [Case; 4] = [
             create!("Starter", "2024-01-15"),
             block!(ACCOUNT, "fraud", "2024-01-15", true, true),
         ],
-        rows: &[(0, "2024-01-15", "2024-01-15", TRIAL)],
+        held: Held::Fees(&[(0, "2024-01-15", "2024-01-15", TRIAL)]),
     },
     Case {
         texts: &[CLUB],
         bcd: 1,
         steps: &[create!("Starter", "2024-01-15"), cancel!(0, "2024-01-15")],
-        rows: &[(0, "2024-01-15", "2024-01-15", None)],
+        held: Held::Fees(&[(0, "2024-01-15", "2024-01-15", None)]),
     },
     Case {
         texts: &[CLUB],
@@ -364,34 +342,42 @@ const FEES: [Case; 4] = [
             create!("Basic", "2024-01-15"),
             change!(0, "Starter", "2024-03-20", Anchor::Change),
         ],
-        rows: &[
+        held: Held::Fees(&[
             (0, "2024-03-25", "2024-01-15", None),
             (0, "2024-03-25", "2024-03-20", TRIAL_ANEW),
             (0, "2024-03-25", "2024-03-21", None),
-        ],
+        ]),
     },
 ];
 
 #[test]
 fn fees_of_days(rt: HostRuntime) -> Result<(), Fail> {
-    for case in &FEES {
-        holds(&rt, rt.alloc(), case, true)?;
+    hold(&rt, rt.alloc(), &FEES)
+}
+
+static AT_THE_END: [Case; 1] = [Case {
+    texts: &[CLUB],
+    bcd: 1,
+    steps: &[create!("Starter", "2099-12-31")],
+    held: Held::NoCells,
+}];
+
+#[test]
+fn nothing_is_due_from_the_end_of_days_on(rt: HostRuntime) -> Result<(), Fail> {
+    hold(&rt, rt.alloc(), &AT_THE_END)
+}
+
+/// It has no cell from the end of days on.
+pub(crate) fn has_no_cells(rt: &impl Abort, facts: &Facts) -> Result<(), SampleFault> {
+    for number in [LAST_CHARGED, END_OF_DAYS, LAST_REACH] {
+        same(rt, &last_cells(facts, number)?, &(None, None), &number);
     }
     Ok(())
 }
 
-#[test]
-fn nothing_is_due_from_the_end_of_days_on(rt: HostRuntime) -> Result<(), Fail> {
-    let catalog = catalog(rt.alloc(), &[CLUB])?;
-    let steps = [create!("Starter", "2099-12-31")];
-    let account = Account::of(rt.alloc(), &catalog, &steps)?;
-    let facts = facts(&catalog, &account, 1)?;
-    assert!(rt; 0 < facts.timeline.len());
-    let billed = day("2099-12-31")?;
-    for number in [LAST_CHARGED, END_OF_DAYS, LAST_REACH] {
-        let at = Reach::new(number).ok_or("a day")?;
-        let cells = (due_on(&facts, 0, billed, at), fee_on(&facts, 0, billed, at));
-        assert_eq!(rt; cells, (None, None), "{number}");
-    }
-    Ok(())
+/// The cells of a day by its number, billed on 2099-12-31.
+fn last_cells(facts: &Facts, number: u32) -> Result<(Option<Cell>, Option<Cell>), SampleFault> {
+    is_there(facts, 0)?;
+    let day_of = Reach::new(number).ok_or(SampleFault::Word)?;
+    Ok(cells_on(facts, 0, day("2099-12-31")?, day_of))
 }

@@ -2,17 +2,18 @@
 ghost use Rattle.std.specs.Prelude.{◌<◌, ◌≤◌, ◌+◌};
 
 use crate::accounts::facts;
-use crate::pieces::holds_each_day;
+use crate::pieces::holds_on;
 use kb_blocking::Scope;
 use kb_catalog::Catalog;
 use kb_samples::Step::{Block, Cancel, Change, Create};
-use kb_samples::{Account, Anchor, CLUB, SampleFault, Step, catalog, day};
+use kb_samples::{Account, Anchor, CLUB, SampleFault, Step, catalog};
 use kb_timeline::EditFault;
 use std::alloc::Global;
+use std::process::Abort;
 use std::test::Fail;
 
 /// The first days of the months from December 2023 to January 2025, each behind the two days before it.
-const DATES: [&str; 42] = [
+static DATES: [&str; 42] = [
     "2023-11-29",
     "2023-11-30",
     "2023-12-01",
@@ -67,7 +68,7 @@ struct Plans {
 
 /// The other subscription stands for itself; the lead offers the add-on for some time; and the add-on is
 /// billed by its lead's cycle day.
-const PLANS: [Plans; 3] = [
+static PLANS: [Plans; 3] = [
     Plans {
         leads: ["Basic", "Starter", "Own"],
         others: ["Thirty", "Thirty", "Thirty"],
@@ -85,7 +86,7 @@ const PLANS: [Plans; 3] = [
     },
 ];
 
-const BCDS: [u32; 6] = [1, 15, 28, 29, 30, 31];
+static BCDS: [u32; 6] = [1, 15, 28, 29, 30, 31];
 
 /// Numbers that are drawn alike in each run.
 #[derive(Drop)]
@@ -187,19 +188,24 @@ fn account(
     catalog: &Catalog,
     draws: &mut Draws,
     plans: &Plans,
-) -> Result<Account, Fail> {
+) -> Result<Account, SampleFault> {
     let mut account = Account::new(alloc);
     for turn in 0..10 {
-        match account.take(alloc, catalog, step(draws, plans, turn)) {
-            Ok(()) => {}
-            Err(SampleFault::Step(EditFault::BeforeStart | EditFault::Cancelled)) => {}
-            Err(fault) => return Err(fault.into()),
-        }
+        let taken = account.take(alloc, catalog, step(draws, plans, turn));
+        unless_refused(taken)?;
     }
     let (one, other) = (draws.place(5, 4), draws.place(5, 4));
     account.take(alloc, catalog, pause(one.min(other), true))?;
     account.take(alloc, catalog, pause(one.max(other), false))?;
     Ok(account)
+}
+
+/// A step that comes before a start, or after a cancellation, is left out.
+fn unless_refused(taken: Result<(), SampleFault>) -> Result<(), SampleFault> {
+    match taken {
+        Err(SampleFault::Step(EditFault::BeforeStart | EditFault::Cancelled)) => Ok(()),
+        _ => taken,
+    }
 }
 
 /// A state of the bundle by which it is paused, or runs on.
@@ -219,13 +225,32 @@ fn pause(place: usize, is_paused: bool) -> Step
 fn pieces_of_generated_accounts(rt: HostRuntime) -> Result<(), Fail> {
     let catalog = catalog(rt.alloc(), &[CLUB])?;
     for seed in 0..10 {
-        let mut draws = Draws { last: seed };
-        let plans = PLANS[seed as usize % 3];
-        let account = account(rt.alloc(), &catalog, &mut draws, &plans)?;
-        let facts = facts(&catalog, &account, BCDS[draws.below(6)])?;
-        for date in [draws.date(3, 5), draws.date(8, 6), "2025-01-12"] {
-            holds_each_day(&rt, rt.alloc(), &facts, day(date)?)?;
-        }
+        generated_account(&rt, rt.alloc(), &catalog, seed)?;
     }
     Ok(())
+}
+
+fn generated_account(
+    rt: &impl Abort,
+    alloc: Global,
+    catalog: &Catalog,
+    seed: u32,
+) -> Result<(), SampleFault> {
+    let mut draws = Draws { last: seed };
+    let plans = PLANS[seed as usize % 3];
+    let account = account(alloc, catalog, &mut draws, &plans)?;
+    generated_holds(rt, alloc, catalog, &account, &mut draws)
+}
+
+/// Holds an account for two dates that are drawn, and for one long after them.
+fn generated_holds(
+    rt: &impl Abort,
+    alloc: Global,
+    catalog: &Catalog,
+    account: &Account,
+    draws: &mut Draws,
+) -> Result<(), SampleFault> {
+    let facts = facts(catalog, account, BCDS[draws.below(6)])?;
+    let billed = [draws.date(3, 5), draws.date(8, 6), "2025-01-12"];
+    holds_on(rt, alloc, &facts, &billed)
 }

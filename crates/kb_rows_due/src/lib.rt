@@ -5,6 +5,10 @@
 #[cfg(test)]
 mod accounts;
 #[cfg(test)]
+mod cases;
+#[cfg(test)]
+mod compare;
+#[cfg(test)]
 mod due_days;
 #[cfg(test)]
 mod generated;
