@@ -1,10 +1,11 @@
 //! Blocking states: what is blocked on a day, and on which days that turns.
 
+use crate::compare::same;
 use kb_blocking::{AddFault, BlockState, Blocks, Chain, Flag, Flags, MAX_STATES, Scope};
 use kb_days::{Day, FIRST_REACH, LAST_REACH, Reach};
-use kb_samples::{day, name, reach};
+use kb_samples::{SampleFault, day, name, reach};
 use std::alloc::Global;
-use std::test::Fail;
+use std::process::Abort;
 
 const CLEAR: Flags = Flags {
     change: false,
@@ -46,7 +47,7 @@ const OTHER: Chain = Chain {
 type Row = (Scope, &'static str, &'static str, Flags);
 
 /// States of an account, two bundles and a subscription.
-const STATES: [Row; 6] = [
+static STATES: [Row; 6] = [
     (Scope::Bundle(0), "entitlement", "2024-03-18", PAUSED),
     (Scope::Account, "fraud", "2024-03-23", FROZEN),
     (Scope::Bundle(0), "entitlement", "2024-03-28", CLEAR),
@@ -56,7 +57,9 @@ const STATES: [Row; 6] = [
 ];
 
 /// A bundle, a subscription, a day, and whether changes, use and billing are blocked by those.
-const BLOCKED: [(Option<u32>, Option<u32>, &str, (bool, bool, bool)); 15] = [
+type OnDay = (Option<u32>, Option<u32>, &'static str, (bool, bool, bool));
+
+static BLOCKED: [OnDay; 15] = [
     (Some(0), Some(3), "2024-03-17", (false, false, false)),
     (Some(0), Some(3), "2024-03-18", (true, true, true)),
     (Some(0), Some(3), "2024-03-27", (true, true, true)),
@@ -76,7 +79,14 @@ const BLOCKED: [(Option<u32>, Option<u32>, &str, (bool, bool, bool)); 15] = [
 
 /// The days and the flags of two states of a bundle, in the order in which they are accepted; a day, and
 /// whether billing is blocked on it.
-const ORDERS: [((&str, Flags), (&str, Flags), &str, bool); 6] = [
+type Order = (
+    (&'static str, Flags),
+    (&'static str, Flags),
+    &'static str,
+    bool,
+);
+
+static ORDERS: [Order; 6] = [
     (
         ("2024-03-18", PAUSED),
         ("2024-03-18", CLEAR),
@@ -116,7 +126,7 @@ const ORDERS: [((&str, Flags), (&str, Flags), &str, bool); 6] = [
 ];
 
 /// States of 2024 that are accepted late, hidden, repeated, and replaced on their day.
-const TURNING: [Row; 14] = [
+static TURNING: [Row; 14] = [
     (Scope::Subscription(3), "support", "2024-12-31", PAUSED),
     (Scope::Bundle(0), "entitlement", "2024-03-18", PAUSED),
     (Scope::Bundle(0), "entitlement", "2024-03-28", CLEAR),
@@ -134,20 +144,23 @@ const TURNING: [Row; 14] = [
 ];
 
 /// The days on which billing turns by those.
-const TURNS: [&str; 3] = ["2024-03-18", "2024-06-26", "2024-12-31"];
+static TURNS: [&str; 3] = ["2024-03-18", "2024-06-26", "2024-12-31"];
 
 /// The day of a text, or the first or the last one of all.
-fn day_of(text: &str) -> Result<Reach, Fail> {
-    let number = match text {
-        "the first day" => FIRST_REACH,
-        "the last day" => LAST_REACH,
-        _ => return Ok(reach(text)?),
-    };
-    Ok(Reach::new(number).ok_or("a day")?)
+fn day_of(text: &str) -> Result<Reach, SampleFault> {
+    match text {
+        "the first day" => numbered(FIRST_REACH),
+        "the last day" => numbered(LAST_REACH),
+        _ => reach(text),
+    }
+}
+
+fn numbered(number: u32) -> Result<Reach, SampleFault> {
+    Reach::new(number).ok_or(SampleFault::Word)
 }
 
 /// The state of a row.
-fn state(row: Row) -> Result<BlockState, Fail> {
+fn state(row: Row) -> Result<BlockState, SampleFault> {
     let (scope, service, from, flags) = row;
     Ok(BlockState {
         scope,
@@ -159,7 +172,7 @@ fn state(row: Row) -> Result<BlockState, Fail> {
 }
 
 /// The states of these rows, accepted in their order.
-fn accepted(alloc: Global, rows: &[Row]) -> Result<Blocks, Fail> {
+fn accepted(alloc: Global, rows: &[Row]) -> Result<Blocks, SampleFault> {
     let mut blocks = Blocks::new(alloc);
     for row in rows {
         blocks = blocks.add(alloc, state(*row)?)?;
@@ -168,59 +181,96 @@ fn accepted(alloc: Global, rows: &[Row]) -> Result<Blocks, Fail> {
 }
 
 #[test]
-fn flags_of_a_chain(rt: HostRuntime) -> Result<(), Fail> {
+fn flags_of_a_chain(rt: HostRuntime) -> Result<(), SampleFault> {
     let blocks = accepted(rt.alloc(), &STATES)?;
-    assert_eq!(rt; blocks.states().len(), 6);
-    for (bundle, subscription, text, flags) in BLOCKED {
-        let chain = Chain {
-            bundle,
-            subscription,
-        };
-        let day = day_of(text)?;
-        let on = (
-            blocks.blocked(chain, Flag::Change, day),
-            blocks.blocked(chain, Flag::Entitlement, day),
-            blocks.blocked(chain, Flag::Billing, day),
-        );
-        assert_eq!(rt; on, flags, "{bundle:?} {subscription:?} {text}");
+    flags_are(&rt, &blocks)
+}
+
+fn flags_are(rt: &impl Abort, blocks: &Blocks) -> Result<(), SampleFault> {
+    same(rt, &blocks.states().len(), &6, &"states");
+    for row in &BLOCKED {
+        same(rt, &flags_on(blocks, row)?, &row.3, row);
     }
     Ok(())
 }
 
+/// Whether changes, use and billing are blocked as a row asks.
+fn flags_on(blocks: &Blocks, row: &OnDay) -> Result<(bool, bool, bool), SampleFault> {
+    let day = day_of(row.2)?;
+    let chain = Chain {
+        bundle: row.0,
+        subscription: row.1,
+    };
+    Ok((
+        blocks.blocked(chain, Flag::Change, day),
+        blocks.blocked(chain, Flag::Entitlement, day),
+        blocks.blocked(chain, Flag::Billing, day),
+    ))
+}
+
 #[test]
-fn the_order_of_two_states(rt: HostRuntime) -> Result<(), Fail> {
-    for (first, second, text, expected) in ORDERS {
-        let rows = [
-            (Scope::Bundle(0), "entitlement", first.0, first.1),
-            (Scope::Bundle(0), "entitlement", second.0, second.1),
-        ];
-        let blocks = accepted(rt.alloc(), &rows)?;
-        let on = blocks.blocked(CHAIN, Flag::Billing, reach(text)?);
-        assert_eq!(rt; on, expected, "{} {} {text}", first.0, second.0);
+fn the_order_of_two_states(rt: HostRuntime) -> Result<(), SampleFault> {
+    orders_are(&rt, rt.alloc())
+}
+
+fn orders_are(rt: &impl Abort, alloc: Global) -> Result<(), SampleFault> {
+    for row in &ORDERS {
+        let told = (row.0.0, row.1.0, row.2);
+        same(rt, &is_blocked(alloc, row)?, &row.3, &told);
     }
     Ok(())
 }
 
+/// Whether billing is blocked as a row asks.
+fn is_blocked(alloc: Global, row: &Order) -> Result<bool, SampleFault> {
+    let (first, second, text, _) = *row;
+    let rows = [
+        (Scope::Bundle(0), "entitlement", first.0, first.1),
+        (Scope::Bundle(0), "entitlement", second.0, second.1),
+    ];
+    let blocks = accepted(alloc, &rows)?;
+    Ok(blocks.blocked(CHAIN, Flag::Billing, reach(text)?))
+}
+
 #[test]
-fn at_most_4096_states(rt: HostRuntime) -> Result<(), Fail> {
-    let alloc = rt.alloc();
+fn at_most_4096_states(rt: HostRuntime) -> Result<(), SampleFault> {
+    let blocks = of_bundles(rt.alloc(), 4096)?;
+    takes_no_more(&rt, rt.alloc(), &blocks)
+}
+
+fn takes_no_more(rt: &impl Abort, alloc: Global, blocks: &Blocks) -> Result<(), SampleFault> {
+    let another = blocks.add(alloc, state(STATES[0])?).err();
+    let found = (another, blocks.states().len());
+    same(
+        rt,
+        &found,
+        &(Some(AddFault::Limit), MAX_STATES),
+        &"one more",
+    );
+    Ok(())
+}
+
+/// So many states, of a bundle each.
+fn of_bundles(alloc: Global, count: u32) -> Result<Blocks, SampleFault> {
     let mut blocks = Blocks::new(alloc);
-    for place in 0..4096 {
+    for place in 0..count {
         let row = (Scope::Bundle(place), "fraud", "2024-03-18", FROZEN);
         blocks = blocks.add(alloc, state(row)?)?;
     }
-    let another = blocks.add(alloc, state(STATES[0])?);
-    let counts = (another.err(), blocks.states().len());
-    assert_eq!(rt; counts, (Some(AddFault::Limit), MAX_STATES));
-    Ok(())
+    Ok(blocks)
 }
 
 /// The days of 2024 on which a flag differs from the day before.
-fn walked(alloc: Global, blocks: &Blocks, chain: Chain, flag: Flag) -> Result<Vec<Day>, Fail> {
+fn walked(
+    alloc: Global,
+    blocks: &Blocks,
+    chain: Chain,
+    flag: Flag,
+) -> Result<Vec<Day>, SampleFault> {
     let mut days = Vec::new(alloc);
     let mut was_on = false;
     for number in day("2024-01-01")?.number()..=day("2024-12-31")?.number() {
-        let day = Day::new(number).ok_or("a day")?;
+        let day = Day::new(number).ok_or(SampleFault::Word)?;
         let is_on = blocks.blocked(chain, flag, day.reach());
         if is_on != was_on {
             days.push(day)?;
@@ -231,20 +281,50 @@ fn walked(alloc: Global, blocks: &Blocks, chain: Chain, flag: Flag) -> Result<Ve
 }
 
 #[test]
-fn transitions_in_2024(rt: HostRuntime) -> Result<(), Fail> {
-    let alloc = rt.alloc();
-    let blocks = accepted(alloc, &TURNING)?;
-    let turns = blocks.transitions(alloc, CHAIN, Flag::Billing)?;
-    assert_eq!(rt; turns.len(), TURNS.len());
-    for (turn, text) in turns.iter().zip(TURNS) {
-        assert_eq!(rt; *turn, day(text)?);
-    }
+fn transitions_in_2024(rt: HostRuntime) -> Result<(), SampleFault> {
+    let blocks = accepted(rt.alloc(), &TURNING)?;
+    turns_are(&rt, rt.alloc(), &blocks)
+}
+
+fn turns_are(rt: &impl Abort, alloc: Global, blocks: &Blocks) -> Result<(), SampleFault> {
+    turns_as_told(rt, alloc, blocks)?;
     for chain in [CHAIN, OTHER] {
         for flag in [Flag::Change, Flag::Entitlement, Flag::Billing] {
-            let turns = blocks.transitions(alloc, chain, flag)?;
-            let walked = walked(alloc, &blocks, chain, flag)?;
-            assert_eq!(rt; turns.as_slice(), walked.as_slice(), "{chain:?} {flag:?}");
+            turns_as_walked(rt, alloc, blocks, chain, flag)?;
         }
     }
+    Ok(())
+}
+
+fn turns_as_told(rt: &impl Abort, alloc: Global, blocks: &Blocks) -> Result<(), SampleFault> {
+    let turns = blocks.transitions(alloc, CHAIN, Flag::Billing)?;
+    same(
+        rt,
+        &turns.as_slice(),
+        &days_of(alloc, &TURNS)?.as_slice(),
+        &"turns",
+    );
+    Ok(())
+}
+
+/// The days of some dates.
+fn days_of(alloc: Global, dates: &[&str]) -> Result<Vec<Day>, SampleFault> {
+    let mut days = Vec::new(alloc);
+    for date in dates {
+        days.push(day(date)?)?;
+    }
+    Ok(days)
+}
+
+fn turns_as_walked(
+    rt: &impl Abort,
+    alloc: Global,
+    blocks: &Blocks,
+    chain: Chain,
+    flag: Flag,
+) -> Result<(), SampleFault> {
+    let turns = blocks.transitions(alloc, chain, flag)?;
+    let walked = walked(alloc, blocks, chain, flag)?;
+    same(rt, &turns.as_slice(), &walked.as_slice(), &(chain, flag));
     Ok(())
 }

@@ -5,6 +5,8 @@
 #[cfg(test)]
 mod blocking;
 #[cfg(test)]
+mod compare;
+#[cfg(test)]
 mod periods;
 #[cfg(test)]
 mod phases;

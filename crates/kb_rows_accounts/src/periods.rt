@@ -1,12 +1,13 @@
 //! Billing periods of days.
 
+use crate::compare::same;
 use kb_align::period_of;
 use kb_days::{Bcd, Day, LAST_CHARGED, LAST_REACH, Period, Reach, day_of_month, month_of};
-use kb_samples::day;
-use std::test::Fail;
+use kb_samples::{SampleFault, day};
+use std::process::Abort;
 
 /// The periods that have a length.
-const PERIODS: [Period; 9] = [
+static PERIODS: [Period; 9] = [
     Period::Daily,
     Period::Weekly,
     Period::Biweekly,
@@ -20,7 +21,16 @@ const PERIODS: [Period; 9] = [
 
 /// The first day of a subscription, a period, a cycle day, a day, and the first days of the day's period and
 /// of the next one.
-const ROWS: [(&str, Period, u32, &str, &str, &str); 25] = [
+type Row = (
+    &'static str,
+    Period,
+    u32,
+    &'static str,
+    &'static str,
+    &'static str,
+);
+
+static ROWS: [Row; 25] = [
     // the ends of months
     (
         "2024-01-31",
@@ -229,7 +239,7 @@ const ROWS: [(&str, Period, u32, &str, &str, &str); 25] = [
 
 /// First days of subscriptions and days: over leap days, at the first day, before the cycle day, and the last
 /// day that may be charged.
-const SEARCHED: [(&str, &str); 5] = [
+static SEARCHED: [(&str, &str); 5] = [
     ("2024-01-15", "2024-02-29"),
     ("2024-01-31", "2024-01-31"),
     ("2024-02-29", "2026-02-28"),
@@ -238,7 +248,7 @@ const SEARCHED: [(&str, &str); 5] = [
 ];
 
 /// The number of the day of a text, or of the last day that may be charged.
-fn number(text: &str) -> Result<u32, Fail> {
+fn number(text: &str) -> Result<u32, SampleFault> {
     if text == "the last charged day" {
         return Ok(LAST_CHARGED);
     }
@@ -306,29 +316,48 @@ fn first_after(start: u32, period: Period, bcd: u32, day: u32) -> u32 {
 }
 
 #[test]
-fn periods_of_days(rt: HostRuntime) -> Result<(), Fail> {
-    for (start, period, bcd, day, from, to) in ROWS {
-        let expected = (number(from)?, number(to)?);
-        let found = found(number(start)?, period, bcd, number(day)?);
-        assert_eq!(rt; found, Some(expected), "{period:?} {bcd} {day}");
+fn periods_of_days(rt: HostRuntime) -> Result<(), SampleFault> {
+    periods_are(&rt)
+}
+
+fn periods_are(rt: &impl Abort) -> Result<(), SampleFault> {
+    for row in &ROWS {
+        let wanted = (number(row.4)?, number(row.5)?);
+        same(rt, &found_for(row)?, &Some(wanted), row);
     }
     Ok(())
 }
 
+/// The period of the day of a row.
+fn found_for(row: &Row) -> Result<Option<(u32, u32)>, SampleFault> {
+    Ok(found(number(row.0)?, row.1, row.2, number(row.3)?))
+}
+
 #[test]
-fn periods_as_a_search_finds_them(rt: HostRuntime) -> Result<(), Fail> {
-    for (start, day) in SEARCHED {
-        let (start, day) = (number(start)?, number(day)?);
-        for period in PERIODS {
-            for bcd in [1, 15, 28, 29, 30, 31] {
-                let searched = (
-                    last_on(start, period, bcd, day),
-                    first_after(start, period, bcd, day),
-                );
-                let found = found(start, period, bcd, day);
-                assert_eq!(rt; found, Some(searched), "{period:?} {bcd} {day}");
-            }
-        }
+fn periods_as_a_search_finds_them(rt: HostRuntime) -> Result<(), SampleFault> {
+    searches_agree(&rt)
+}
+
+fn searches_agree(rt: &impl Abort) -> Result<(), SampleFault> {
+    for (start, day) in &SEARCHED {
+        periods_are_found(rt, number(start)?, number(day)?);
     }
     Ok(())
+}
+
+fn periods_are_found(rt: &impl Abort, start: u32, day: u32) {
+    for period in PERIODS {
+        for bcd in [1, 15, 28, 29, 30, 31] {
+            period_is_found(rt, start, period, bcd, day);
+        }
+    }
+}
+
+fn period_is_found(rt: &impl Abort, start: u32, period: Period, bcd: u32, day: u32) {
+    let searched = (
+        last_on(start, period, bcd, day),
+        first_after(start, period, bcd, day),
+    );
+    let found = found(start, period, bcd, day);
+    same(rt, &found, &Some(searched), &(period, bcd, day));
 }
