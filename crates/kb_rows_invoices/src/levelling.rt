@@ -3,9 +3,11 @@ ghost use Rattle.std.specs.Prelude.{◌≡◌, ◌+◌, ◌^◌, ◌≤◌, fals
 ghost use Rattle.kb_credit.specs.Items.{amount_of, is_adjustment};
 ghost use Rattle.kb_rows_invoices.specs.Steps.{IsWithin};
 
+use crate::compare::same;
 use kb_credit::{Invoices, Line};
 use kb_days::{Day, parse};
 use std::alloc::Global;
+use std::process::Abort;
 use std::test::Fail;
 
 /// What is done to an account.
@@ -45,7 +47,7 @@ type Row = (
 );
 
 /// March is billed at 1000 and cancelled from the 20th on: 387 are given back.
-const ROWS: [Row; 10] = [
+static ROWS: [Row; 10] = [
     ("no invoice", &[Step::Level], &[], &[], (0, 0, 0, None)),
     (
         "what is given back of a paid invoice is credit",
@@ -198,16 +200,20 @@ const ROWS: [Row; 10] = [
 #[test]
 fn levelled_accounts(rt: HostRuntime) -> Result<(), Fail> {
     for row in &ROWS {
-        let (name, steps, items, balances, told) = *row;
-        let invoices = edited_by(rt.alloc(), steps)?;
-        assert_eq!(rt; tell(&invoices), told_days(told)?, "{name}");
-        assert_eq!(rt; wrong_item(&invoices, items), 0, "{name}: the items");
-        assert_eq!(rt;
-            wrong_balance(&invoices, balances),
-            0,
-            "{name}: the balances"
-        );
+        levelled_account(&rt, rt.alloc(), row)?;
     }
+    Ok(())
+}
+
+fn levelled_account(rt: &impl Abort, alloc: Global, row: &Row) -> Result<(), Fail> {
+    let (name, steps, items, balances, told) = *row;
+    let invoices = edited_by(alloc, steps)?;
+    let found = (
+        tell(&invoices),
+        wrong_item(&invoices, items),
+        wrong_balance(&invoices, balances),
+    );
+    same(rt, &found, &(told_days(told)?, 0, 0), &name);
     Ok(())
 }
 

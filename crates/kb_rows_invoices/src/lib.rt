@@ -4,4 +4,6 @@
 #![tactic(auto)]
 
 #[cfg(test)]
+mod compare;
+#[cfg(test)]
 mod levelling;
