@@ -2,7 +2,9 @@
 ghost use Rattle.std.specs.Prelude.{◌≤ℤ◌, pos, All, IfOk};
 ghost use Rattle.kb_credit.specs.InvoiceRows.{balance_of};
 
+use crate::compare::same;
 use crate::facts::told;
+use kb_book::Unprepared;
 use kb_codec::{Amount, InvoiceNo, Pay, Refund, Settle};
 use kb_credit::{Invoices, Line};
 use kb_days::Day;
@@ -10,13 +12,13 @@ use kb_edits::{invoice_due, pay, refund, settle};
 use kb_payment::{Payments, Status};
 use kb_samples::{SampleFault, day, name};
 use std::alloc::Global;
-use std::test::Fail;
+use std::process::Abort;
 
 /// The payment key, the invoice, the amount (none asks for all), and the refusal.
 type Paid = (&'static str, u32, Option<u64>, &'static str);
 
 /// Each is asked for in turn.
-const PAYMENTS: [Paid; 7] = [
+static PAYMENTS: [Paid; 7] = [
     ("auto-1", 9, Some(2000), "BadName"),
     ("p1", 9, Some(2000), "NoInvoice"),
     ("p1", 1, Some(1001), "AmountTooLarge"),
@@ -27,20 +29,27 @@ const PAYMENTS: [Paid; 7] = [
 ];
 
 #[test]
-fn payments(rt: HostRuntime) -> Result<(), Fail> {
+fn payments(rt: HostRuntime) -> Result<(), SampleFault> {
+    let invoices = invoiced(rt.alloc(), day("2024-03-10")?)?;
+    are_asked_for(&rt, rt.alloc(), &invoices)
+}
+
+fn are_asked_for(rt: &impl Abort, alloc: Global, invoices: &Invoices) -> Result<(), SampleFault>
+    requires levelled { All (λ row. pos 0 ≤ℤ balance_of row) invoices.now.rows }
+{
     let today = day("2024-03-10")?;
-    let invoices = invoiced(rt.alloc(), today)?;
-    let mut payments = Payments::new(rt.alloc());
-    assert_eq!(rt; invoice_due(true, &payments, &invoices, today), Some(1));
+    let mut payments = Payments::new(alloc);
+    let before = invoice_due(true, &payments, invoices, today);
     for row in &PAYMENTS {
-        let (key, invoice, _, refusal) = *row;
-        assert_eq!(rt;
-            paid(rt.alloc(), &mut payments, &invoices, row)?,
-            refusal,
-            "{key} {invoice}"
-        );
+        same(rt, &paid(alloc, &mut payments, invoices, row)?, &row.3, row);
     }
-    assert_eq!(rt; invoice_due(true, &payments, &invoices, today), None);
+    let due = (before, invoice_due(true, &payments, invoices, today));
+    same(
+        rt,
+        &due,
+        &(Some(1), None),
+        &"the invoice that is due before and after",
+    );
     Ok(())
 }
 
@@ -50,24 +59,29 @@ fn paid(
     payments: &mut Payments,
     invoices: &Invoices,
     row: &Paid,
-) -> Result<&'static str, Fail>
+) -> Result<&'static str, SampleFault>
     requires levelled { All (λ row. pos 0 ≤ℤ balance_of row) invoices.now.rows }
 {
-    let (key, invoice, amount, _) = *row;
-    let asked = pay_of(key, invoice, amount)?;
+    let today = day("2024-03-10")?;
+    let asked = pay_of(row)?;
     // The check has to see an amount where a command is let go.
     let _amount = asked.amount;
-    match pay(alloc, payments, invoices, day("2024-03-10")?, &asked) {
+    Ok(taken(payments, pay(alloc, payments, invoices, today, &asked)))
+}
+
+/// Takes the payments that are made, or tells why none are.
+fn taken(payments: &mut Payments, made: Result<Payments, Unprepared>) -> &'static str {
+    match made {
         Ok(more) => {
             *payments = more;
-            Ok("")
+            ""
         }
-        Err(fault) => Ok(told(fault)),
+        Err(fault) => told(fault),
     }
 }
 
 /// One invoice of 1000, levelled.
-fn invoiced(alloc: Global, today: Day) -> Result<Invoices, Fail>
+fn invoiced(alloc: Global, today: Day) -> Result<Invoices, SampleFault>
     ensures { IfOk result (λ invoices. All (λ row. pos 0 ≤ℤ balance_of row) invoices.rows) }
 {
     let invoices = Invoices::new(alloc).issue(alloc, today, &[Line::Charge { amount: 1000 }])?;
@@ -75,18 +89,22 @@ fn invoiced(alloc: Global, today: Day) -> Result<Invoices, Fail>
 }
 
 /// The command of a row.
-fn pay_of(key: &str, invoice: u32, amount: Option<u64>) -> Result<Pay, SampleFault> {
-    let amount = match amount {
-        None => None,
-        Some(units) => Some(amount_of(units)?),
-    };
+fn pay_of(row: &Paid) -> Result<Pay, SampleFault> {
+    let (key, invoice, amount, _) = *row;
     Ok(Pay {
         account: name("a")?,
         key: name("k")?,
         payment: name(key)?,
         invoice: InvoiceNo::new(invoice).ok_or(SampleFault::Word)?,
-        amount,
+        amount: some_amount(amount)?,
     })
+}
+
+fn some_amount(amount: Option<u64>) -> Result<Option<Amount>, SampleFault> {
+    match amount {
+        None => Ok(None),
+        Some(units) => Ok(Some(amount_of(units)?)),
+    }
 }
 
 fn amount_of(units: u64) -> Result<Amount, SampleFault> {
@@ -96,7 +114,7 @@ fn amount_of(units: u64) -> Result<Amount, SampleFault> {
 /// The payment key, the status, the refusal, and by how much what is paid moves.
 type Settled = (&'static str, Status, &'static str, i128);
 
-const SETTLEMENTS: [Settled; 5] = [
+static SETTLEMENTS: [Settled; 5] = [
     ("p9", Status::Success, "PaymentState", 0),
     ("p1", Status::Unknown, "PaymentState", 0),
     ("p1", Status::Pending, "", 0),
@@ -107,7 +125,7 @@ const SETTLEMENTS: [Settled; 5] = [
 /// The payment key, the payment, the amount, and the refusal.
 type Refunded = (&'static str, &'static str, u64, &'static str);
 
-const REFUNDS: [Refunded; 6] = [
+static REFUNDS: [Refunded; 6] = [
     ("auto-r", "p9", 1, "BadName"),
     ("p1", "p9", 1, "KeyReused"),
     ("r1", "p9", 1, "NoPayment"),
@@ -117,22 +135,36 @@ const REFUNDS: [Refunded; 6] = [
 ];
 
 #[test]
-fn settlements_and_refunds(rt: HostRuntime) -> Result<(), Fail> {
-    let invoices = invoiced(rt.alloc(), day("2024-03-10")?)?;
-    let mut payments = Payments::new(rt.alloc());
-    let first = ("p1", 1, None, "");
-    assert_eq!(rt; paid(rt.alloc(), &mut payments, &invoices, &first)?, "");
-    for row in &SETTLEMENTS {
-        let (key, _, refusal, _) = *row;
-        assert_eq!(rt; settled(rt.alloc(), &mut payments, row)?, refusal, "{key}");
+fn settlements_and_refunds(rt: HostRuntime) -> Result<(), SampleFault> {
+    let mut payments = one_payment(rt.alloc())?;
+    are_settled(&rt, rt.alloc(), &mut payments)?;
+    are_refunded(&rt, rt.alloc(), &mut payments)
+}
+
+/// One payment of the whole invoice.
+fn one_payment(alloc: Global) -> Result<Payments, SampleFault> {
+    let invoices = invoiced(alloc, day("2024-03-10")?)?;
+    let mut payments = Payments::new(alloc);
+    match paid(alloc, &mut payments, &invoices, &("p1", 1, None, ""))? {
+        "" => Ok(payments),
+        _ => Err(SampleFault::Word),
     }
+}
+
+fn are_settled(rt: &impl Abort, alloc: Global, payments: &mut Payments) -> Result<(), SampleFault> {
+    for row in &SETTLEMENTS {
+        same(rt, &settled(alloc, payments, row)?, &row.2, row);
+    }
+    Ok(())
+}
+
+fn are_refunded(
+    rt: &impl Abort,
+    alloc: Global,
+    payments: &mut Payments,
+) -> Result<(), SampleFault> {
     for row in &REFUNDS {
-        let (key, of, _, refusal) = *row;
-        assert_eq!(rt;
-            refunded(rt.alloc(), &mut payments, row)?,
-            refusal,
-            "{key} {of}"
-        );
+        same(rt, &refunded(alloc, payments, row)?, &row.3, row);
     }
     Ok(())
 }
@@ -164,19 +196,18 @@ fn refunded(
     payments: &mut Payments,
     row: &Refunded,
 ) -> Result<&'static str, SampleFault> {
+    let (today, asked) = (day("2024-03-10")?, refund_of(row)?);
+    Ok(taken(payments, refund(alloc, payments, today, &asked)))
+}
+
+/// The command of a row.
+fn refund_of(row: &Refunded) -> Result<Refund, SampleFault> {
     let (key, of, units, _) = *row;
-    let asked = Refund {
+    Ok(Refund {
         account: name("a")?,
         key: name("k")?,
         payment: name(key)?,
         of: name(of)?,
         amount: amount_of(units)?,
-    };
-    match refund(alloc, payments, day("2024-03-10")?, &asked) {
-        Ok(more) => {
-            *payments = more;
-            Ok("")
-        }
-        Err(fault) => Ok(told(fault)),
-    }
+    })
 }

@@ -1,5 +1,6 @@
 //! Pauses and blocks of a bundle b1 with the subscription s1.
 
+use crate::compare::same;
 use crate::facts::told;
 use kb_blocking::{Blocks, Flags};
 use kb_codec::{Block, BlockScope, Pause, Resume};
@@ -7,9 +8,9 @@ use kb_days::{Day, Name};
 use kb_edits::{block, pause, resume};
 use kb_samples::{Account, SHOP, SampleFault, Step, catalog, day, name};
 use std::alloc::Global;
-use std::test::Fail;
+use std::process::Abort;
 
-const STEPS: [Step; 1] = [Step::Create {
+static STEPS: [Step; 1] = [Step::Create {
     plan: "basic-monthly",
     from: "2024-03-01",
     addon: false,
@@ -27,8 +28,8 @@ fn wanted(state: &str, date: &str, flag: bool) -> Result<State, SampleFault> {
     ))
 }
 
-fn last_state(blocks: &Blocks) -> Result<State, Fail> {
-    let state = blocks.states().last().ok_or("a state")?;
+fn last_state(blocks: &Blocks) -> Result<State, SampleFault> {
+    let state = blocks.states().last().ok_or(SampleFault::Word)?;
     let flags = state.flags;
     Ok((
         state.service,
@@ -39,10 +40,10 @@ fn last_state(blocks: &Blocks) -> Result<State, Fail> {
 }
 
 /// The bundle, and the refusal of a pause.
-const PAUSES: [(&str, &str); 2] = [("b1", ""), ("b9", "NoSubscription")];
+static PAUSES: [(&str, &str); 2] = [("b1", ""), ("b9", "NoSubscription")];
 
 /// Why a pause of a bundle is refused; nothing if it isn't, and sets the state that it is to set.
-fn paused(alloc: Global, account: &Account, bundle: &str) -> Result<&'static str, Fail> {
+fn paused(alloc: Global, account: &Account, bundle: &str) -> Result<&'static str, SampleFault> {
     let asked = Pause {
         account: name("a")?,
         key: name("k")?,
@@ -57,7 +58,7 @@ fn paused(alloc: Global, account: &Account, bundle: &str) -> Result<&'static str
 }
 
 /// Nothing if the last state is as it is to be.
-fn told_state(blocks: &Blocks, wanted: State) -> Result<&'static str, Fail> {
+fn told_state(blocks: &Blocks, wanted: State) -> Result<&'static str, SampleFault> {
     if last_state(blocks)? == wanted {
         Ok("")
     } else {
@@ -66,7 +67,7 @@ fn told_state(blocks: &Blocks, wanted: State) -> Result<&'static str, Fail> {
 }
 
 /// The same of the end of a pause of b1.
-fn resumed(alloc: Global, account: &Account) -> Result<&'static str, Fail> {
+fn resumed(alloc: Global, account: &Account) -> Result<&'static str, SampleFault> {
     let asked = Resume {
         account: name("a")?,
         key: name("k")?,
@@ -83,7 +84,7 @@ fn resumed(alloc: Global, account: &Account) -> Result<&'static str, Fail> {
 /// The scope, the target, the service, and the refusal, of an account a.
 type Blocked = (BlockScope, &'static str, &'static str, &'static str);
 
-const BLOCKS: [Blocked; 6] = [
+static BLOCKS: [Blocked; 6] = [
     (BlockScope::Bundle, "b9", "overdue-service", "BadName"),
     (BlockScope::Bundle, "b9", "fraud", "NoSubscription"),
     (BlockScope::Account, "b", "fraud", "NoSubscription"),
@@ -93,28 +94,48 @@ const BLOCKS: [Blocked; 6] = [
 ];
 
 #[test]
-fn pauses_and_blocks(rt: HostRuntime) -> Result<(), Fail> {
+fn pauses_and_blocks(rt: HostRuntime) -> Result<(), SampleFault> {
     let catalog = catalog(rt.alloc(), &[SHOP])?;
     let account = Account::of(rt.alloc(), &catalog, &STEPS)?;
-    for (bundle, refusal) in PAUSES {
-        assert_eq!(rt; paused(rt.alloc(), &account, bundle)?, refusal, "{bundle}");
+    are_paused(&rt, rt.alloc(), &account)?;
+    are_blocked(&rt, rt.alloc(), &account)
+}
+
+fn are_paused(rt: &impl Abort, alloc: Global, account: &Account) -> Result<(), SampleFault> {
+    for (bundle, refusal) in &PAUSES {
+        same(rt, &paused(alloc, account, bundle)?, refusal, bundle);
     }
-    assert_eq!(rt; resumed(rt.alloc(), &account)?, "");
+    same(rt, &resumed(alloc, account)?, &"", &"the end of a pause");
+    Ok(())
+}
+
+fn are_blocked(rt: &impl Abort, alloc: Global, account: &Account) -> Result<(), SampleFault> {
     for row in &BLOCKS {
-        let (_, target, service, refusal) = *row;
-        assert_eq!(rt;
-            blocked(rt.alloc(), &account, row)?,
-            refusal,
-            "{target} {service}"
-        );
+        let refusal = blocked(alloc, account, row)?;
+        same(rt, &refusal, &row.3, &(row.1, row.2));
     }
     Ok(())
 }
 
 /// Why a block is refused; nothing if it isn't.
-fn blocked(alloc: Global, account: &Account, row: &Blocked) -> Result<&'static str, Fail> {
+fn blocked(alloc: Global, account: &Account, row: &Blocked) -> Result<&'static str, SampleFault> {
+    let (asked, own) = (block_of(row)?, name("a")?);
+    let today = day("2024-03-18")?;
+    let made = block(
+        alloc,
+        own,
+        &account.timeline,
+        &account.blocks,
+        today,
+        &asked,
+    );
+    Ok(made.err().map_or("", told))
+}
+
+/// The command of a row.
+fn block_of(row: &Blocked) -> Result<Block, SampleFault> {
     let (scope, target, service, _) = *row;
-    let asked = Block {
+    Ok(Block {
         account: name("a")?,
         key: name("k")?,
         scope,
@@ -127,18 +148,5 @@ fn blocked(alloc: Global, account: &Account, row: &Blocked) -> Result<&'static s
             entitlement: false,
             billing: false,
         },
-    };
-    let today = day("2024-03-18")?;
-    let own = name("a")?;
-    match block(
-        alloc,
-        own,
-        &account.timeline,
-        &account.blocks,
-        today,
-        &asked,
-    ) {
-        Ok(_) => Ok(""),
-        Err(fault) => Ok(told(fault)),
-    }
+    })
 }

@@ -1,5 +1,6 @@
 //! Starts, changes and cancellations of worked accounts, on 2024-03-10.
 
+use crate::compare::same;
 use crate::facts::{facts, told};
 use kb_catalog::Catalog;
 use kb_codec::{Cancel, Change, Create, Uncancel};
@@ -10,7 +11,6 @@ use kb_samples::{Account, CLUB, SHOP, SampleFault, Step, catalog, day, name};
 use kb_timeline::Timeline;
 use std::alloc::Global;
 use std::process::Abort;
-use std::test::Fail;
 
 /// An entry as rows tell it: plan, day and anchor.
 type Told = (&'static str, &'static str, &'static str);
@@ -38,7 +38,7 @@ macro_rules! created {
 }
 
 /// Basic has led b1 since 1 March.
-const STARTS: [Row; 9] = [
+static STARTS: [Row; 9] = [
     ("b2", "s1", "Nothing", false, "2019-12-31", Err("NoCatalog")),
     ("b2", "s1", "Nothing", false, "2024-03-10", Err("NoPlan")),
     (
@@ -86,16 +86,21 @@ const STARTS: [Row; 9] = [
 ];
 
 #[test]
-fn starts(rt: HostRuntime) -> Result<(), Fail> {
+fn starts(rt: HostRuntime) -> Result<(), SampleFault> {
     let catalog = catalog(rt.alloc(), &[SHOP])?;
     let account = Account::of(rt.alloc(), &catalog, &[created!("basic-monthly")])?;
+    are_started(&rt, rt.alloc(), &catalog, &account)
+}
+
+fn are_started(
+    rt: &impl Abort,
+    alloc: Global,
+    catalog: &Catalog,
+    account: &Account,
+) -> Result<(), SampleFault> {
     for row in &STARTS {
-        let (_, subscription, product, _, date, _) = *row;
-        assert_eq!(rt;
-            started(rt.alloc(), &catalog, &account, row)?,
-            refusal(row),
-            "{subscription} {product} {date}"
-        );
+        let refused = started(alloc, catalog, account, row)?;
+        same(rt, &refused, &refusal(row), row);
     }
     Ok(())
 }
@@ -106,7 +111,7 @@ fn started(
     catalog: &Catalog,
     account: &Account,
     row: &Row,
-) -> Result<&'static str, Fail> {
+) -> Result<&'static str, SampleFault> {
     let asked = create_of(row)?;
     // The check has to see a day where a command is let go.
     let _day = asked.day;
@@ -154,7 +159,7 @@ fn told_entry(
     timeline: &Timeline,
     sub: u32,
     row: &Row,
-) -> Result<&'static str, Fail> {
+) -> Result<&'static str, SampleFault> {
     let Ok(entry) = row.5 else {
         return Ok("");
     };
@@ -171,13 +176,17 @@ fn wanted(entry: Told) -> Result<(Name, Day, Day), SampleFault> {
 }
 
 /// The last entry of a subscription.
-fn last_entry(catalog: &Catalog, timeline: &Timeline, sub: u32) -> Result<(Name, Day, Day), Fail> {
+fn last_entry(
+    catalog: &Catalog,
+    timeline: &Timeline,
+    sub: u32,
+) -> Result<(Name, Day, Day), SampleFault> {
     if timeline.len() <= sub {
-        return Err("a place".into());
+        return Err(SampleFault::Subscription);
     }
     let entries = timeline.subscription(sub).entries.as_slice();
-    let entry = entries.last().ok_or("an entry")?;
-    let choice = choice_of(catalog, entry.plan).ok_or("a plan")?;
+    let entry = entries.last().ok_or(SampleFault::Word)?;
+    let choice = choice_of(catalog, entry.plan).ok_or(SampleFault::Plan)?;
     Ok((choice.plan.name, entry.day, entry.anchor))
 }
 
@@ -189,7 +198,7 @@ struct Case {
     rows: &'static [Row],
 }
 
-const CASES: [Case; 4] = [
+static CASES: [Case; 4] = [
     Case {
         text: SHOP,
         steps: &[created!("basic-monthly")],
@@ -268,24 +277,29 @@ const CASES: [Case; 4] = [
 ];
 
 #[test]
-fn changes(rt: HostRuntime) -> Result<(), Fail> {
+fn changes(rt: HostRuntime) -> Result<(), SampleFault> {
     for case in &CASES {
         changes_of(&rt, rt.alloc(), case)?;
     }
     Ok(())
 }
 
-fn changes_of(rt: &impl Abort, alloc: Global, case: &Case) -> Result<(), Fail> {
+fn changes_of(rt: &impl Abort, alloc: Global, case: &Case) -> Result<(), SampleFault> {
     let catalog = catalog(alloc, &[case.text])?;
     let account = Account::of(alloc, &catalog, case.steps)?;
-    let billed = billed_of(case.billed)?;
+    are_changed(rt, alloc, &catalog, &account, case)
+}
+
+fn are_changed(
+    rt: &impl Abort,
+    alloc: Global,
+    catalog: &Catalog,
+    account: &Account,
+    case: &Case,
+) -> Result<(), SampleFault> {
     for row in case.rows {
-        let (_, subscription, product, _, date, _) = *row;
-        assert_eq!(rt;
-            changed(alloc, &catalog, &account, billed, row)?,
-            refusal(row),
-            "{subscription} {product} {date}"
-        );
+        let refused = changed(alloc, catalog, account, case.billed, row)?;
+        same(rt, &refused, &refusal(row), row);
     }
     Ok(())
 }
@@ -295,12 +309,13 @@ fn changed(
     alloc: Global,
     catalog: &Catalog,
     account: &Account,
-    billed: Option<Day>,
+    billed: Option<&str>,
     row: &Row,
-) -> Result<&'static str, Fail> {
+) -> Result<&'static str, SampleFault> {
+    let (billed, today) = (billed_of(billed)?, day("2024-03-10")?);
     let asked = change_of(row)?;
     let facts = facts(catalog, account)?;
-    match change(alloc, &facts, billed, day("2024-03-10")?, &asked) {
+    match change(alloc, &facts, billed, today, &asked) {
         Ok(timeline) => told_entry(catalog, &timeline, 0, row),
         Err(fault) => Ok(told(fault)),
     }
@@ -336,7 +351,7 @@ type Cancelled = (
 );
 
 /// A Pro is charged until 1 April.
-const CANCELLATIONS: [Cancelled; 4] = [
+static CANCELLATIONS: [Cancelled; 4] = [
     ("s9", "2024-02-29", "NoSubscription", None),
     ("s1", "2024-02-29", "BeforeStart", None),
     ("s1", "2024-03-10", "", Some("2024-04-01")),
@@ -344,23 +359,34 @@ const CANCELLATIONS: [Cancelled; 4] = [
 ];
 
 #[test]
-fn cancellations(rt: HostRuntime) -> Result<(), Fail> {
+fn cancellations(rt: HostRuntime) -> Result<(), SampleFault> {
     let catalog = catalog(rt.alloc(), &[SHOP])?;
     let account = Account::of(rt.alloc(), &catalog, &[created!("pro-monthly")])?;
+    are_cancelled(&rt, rt.alloc(), &catalog, &account)?;
+    are_uncancelled(&rt, rt.alloc(), &catalog, &account)
+}
+
+fn are_cancelled(
+    rt: &impl Abort,
+    alloc: Global,
+    catalog: &Catalog,
+    account: &Account,
+) -> Result<(), SampleFault> {
     for row in &CANCELLATIONS {
-        let (subscription, date, refusal, _) = *row;
-        assert_eq!(rt;
-            cancelled(rt.alloc(), &catalog, &account, row)?,
-            refusal,
-            "{subscription} {date}"
-        );
+        same(rt, &cancelled(alloc, catalog, account, row)?, &row.2, row);
     }
+    Ok(())
+}
+
+fn are_uncancelled(
+    rt: &impl Abort,
+    alloc: Global,
+    catalog: &Catalog,
+    account: &Account,
+) -> Result<(), SampleFault> {
     for (subscription, refusal) in [("s9", "NoSubscription"), ("s1", "NotCancelled")] {
-        assert_eq!(rt;
-            uncancelled(rt.alloc(), &catalog, &account, subscription)?,
-            refusal,
-            "{subscription}"
-        );
+        let refused = uncancelled(alloc, catalog, account, subscription)?;
+        same(rt, &refused, &refusal, &subscription);
     }
     Ok(())
 }
@@ -371,7 +397,7 @@ fn cancelled(
     catalog: &Catalog,
     account: &Account,
     row: &Cancelled,
-) -> Result<&'static str, Fail> {
+) -> Result<&'static str, SampleFault> {
     let (subscription, date, _, end) = *row;
     let asked = Cancel {
         account: name("a")?,
@@ -388,9 +414,9 @@ fn cancelled(
 }
 
 /// Nothing if the first subscription is cancelled from a day on.
-fn told_end(timeline: &Timeline, end: Option<Day>) -> Result<&'static str, Fail> {
+fn told_end(timeline: &Timeline, end: Option<Day>) -> Result<&'static str, SampleFault> {
     if timeline.len() == 0 {
-        return Err("a place".into());
+        return Err(SampleFault::Subscription);
     }
     if timeline.subscription(0).cancel == end {
         Ok("")
@@ -405,7 +431,7 @@ fn uncancelled(
     catalog: &Catalog,
     account: &Account,
     subscription: &str,
-) -> Result<&'static str, Fail> {
+) -> Result<&'static str, SampleFault> {
     let asked = Uncancel {
         account: name("a")?,
         key: name("k")?,
