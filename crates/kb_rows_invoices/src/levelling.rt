@@ -206,12 +206,16 @@ fn levelled_accounts(rt: HostRuntime) -> Result<(), Fail> {
 }
 
 fn levelled_account(rt: &impl Abort, alloc: Global, row: &Row) -> Result<(), Fail> {
-    let (name, steps, items, balances, told) = *row;
-    let invoices = edited_by(alloc, steps)?;
+    let invoices = edited_by(alloc, row.1)?;
+    is_levelled(rt, &invoices, row)
+}
+
+fn is_levelled(rt: &impl Abort, invoices: &Invoices, row: &Row) -> Result<(), Fail> {
+    let (name, _, items, balances, told) = *row;
     let found = (
-        tell(&invoices),
-        wrong_item(&invoices, items),
-        wrong_balance(&invoices, balances),
+        tell(invoices),
+        wrong_item(invoices, items),
+        wrong_balance(invoices, balances),
     );
     same(rt, &found, &(told_days(told)?, 0, 0), &name);
     Ok(())
