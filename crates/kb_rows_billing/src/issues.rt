@@ -2,6 +2,7 @@
 ghost use Rattle.std.specs.Prelude.{◌≡◌, ◌<◌, All, IfOk};
 ghost use Rattle.kb_billing.specs.Numbers.{AreBelow};
 
+use crate::compare::same;
 use kb_billing::{SubscriptionCharges, issue_due};
 use kb_blocking::Scope;
 use kb_catalog::Catalog;
@@ -32,7 +33,7 @@ type LineRow = (Kind, u32, &'static str, &'static str, i128);
 type Turn = (&'static [Step], &'static str, &'static [LineRow]);
 
 /// A name, the cycle day, and turns; no subscription is created after the first one.
-const ROWS: [(&str, u32, &[Turn]); 7] = [
+static ROWS: [(&str, u32, &[Turn]); 7] = [
     (
         "a cancellation in the past",
         1,
@@ -341,7 +342,7 @@ fn holds<L: Ledger>(
             next,
             steps,
         )?;
-        assert_eq!(rt; wrong_place(&lines, wanted)?, None, "{name}");
+        same(rt, &wrong_place(&lines, wanted)?, &None, &name);
         charges = made;
         next = after;
     }
@@ -360,7 +361,7 @@ fn created(turns: &[Turn]) -> usize {
 }
 
 /// So many subscriptions without an item.
-fn without_items(alloc: Global, count: usize) -> Result<Vec<SubscriptionCharges>, Fail>
+fn without_items(alloc: Global, count: usize) -> Result<Vec<SubscriptionCharges>, SampleFault>
     ensures { IfOk result (λ all. All (AreBelow 1) all.items) }
 {
     let mut all = Vec::new(alloc);
@@ -407,7 +408,7 @@ fn facts<'a>(
 }
 
 /// The place of the first line that isn't as a row says; none if there is none.
-fn wrong_place(lines: &[Line], wanted: &[LineRow]) -> Result<Option<usize>, Fail> {
+fn wrong_place(lines: &[Line], wanted: &[LineRow]) -> Result<Option<usize>, SampleFault> {
     for (place, line) in lines.iter().enumerate() {
         let Some(row) = wanted.get(place) else {
             return Ok(Some(place));
