@@ -1,62 +1,86 @@
 //! Answers to commands and to lines that are no request. In these rows ' stands for ".
 
+use crate::compare::same;
 use crate::lines::line;
 use kb_book::{Answer, Refusal};
 use kb_catalog_text::TextFault;
 use kb_reply::{LaneReply, Step};
 use kb_request::{JsonFault, RequestFault};
+use kb_samples::SampleFault;
 use kb_say::{MEMORY_TEXT, Said, answer_text};
 use std::alloc::Global;
+use std::process::Abort;
 use std::test::Fail;
 
-/// Whether an answer has this text.
-pub(crate) fn is_said(alloc: Global, answer: &Said, text: &str) -> Result<bool, Fail> {
-    Ok(answer_text(alloc, answer)?.as_slice() == line(alloc, text)?.as_slice())
+/// An answer has this text.
+pub(crate) fn says(
+    rt: &impl Abort,
+    alloc: Global,
+    answer: &Said,
+    text: &str,
+) -> Result<(), SampleFault> {
+    let (found, wanted) = (answer_text(alloc, answer)?, line(alloc, text)?);
+    same(rt, &found.as_slice(), &wanted.as_slice(), &text);
+    Ok(())
 }
 
-/// An accepted command, whose sums are all the same.
-fn accepted(command: u64, invoice: Option<u32>, sum: i128) -> Said {
-    Said::Reply(LaneReply::Accepted(Answer {
-        command,
-        invoice,
-        total: sum,
-        credit: sum,
-        unpaid: sum,
-    }))
-}
+/// The number of a command, its invoice, each of its sums, and the text of the answer.
+type Accepted = (u64, Option<u32>, i128, &'static str);
+
+static ACCEPTED: [Accepted; 4] = [
+    (
+        1,
+        None,
+        0,
+        "{'status':'ok','command':1,'invoice':null,'total':0,'credit':0,'unpaid':0}",
+    ),
+    (
+        5,
+        Some(2),
+        -387,
+        "{'status':'ok','command':5,'invoice':2,'total':-387,'credit':-387,'unpaid':-387}",
+    ),
+    (
+        18_446_744_073_709_551_615,
+        Some(4_294_967_295),
+        9_223_372_036_854_775_808,
+        "{'status':'ok','command':18446744073709551615,'invoice':4294967295,'total':9223372036854775808,'credit':9223372036854775808,'unpaid':9223372036854775808}",
+    ),
+    (
+        0,
+        None,
+        i128::MIN,
+        "{'status':'ok','command':0,'invoice':null,'total':-170141183460469231731687303715884105728,'credit':-170141183460469231731687303715884105728,'unpaid':-170141183460469231731687303715884105728}",
+    ),
+];
 
 #[test]
 fn accepted_commands(rt: HostRuntime) -> Result<(), Fail> {
-    let rows = [
-        (
-            accepted(1, None, 0),
-            "{'status':'ok','command':1,'invoice':null,'total':0,'credit':0,'unpaid':0}",
-        ),
-        (
-            accepted(5, Some(2), -387),
-            "{'status':'ok','command':5,'invoice':2,'total':-387,'credit':-387,'unpaid':-387}",
-        ),
-        (
-            accepted(
-                18_446_744_073_709_551_615,
-                Some(4_294_967_295),
-                9_223_372_036_854_775_808,
-            ),
-            "{'status':'ok','command':18446744073709551615,'invoice':4294967295,'total':9223372036854775808,'credit':9223372036854775808,'unpaid':9223372036854775808}",
-        ),
-        (
-            accepted(0, None, i128::MIN),
-            "{'status':'ok','command':0,'invoice':null,'total':-170141183460469231731687303715884105728,'credit':-170141183460469231731687303715884105728,'unpaid':-170141183460469231731687303715884105728}",
-        ),
-    ];
-    for (answer, text) in &rows {
-        assert!(rt; is_said(rt.alloc(), answer, text)?, "{text}");
+    for row in &ACCEPTED {
+        let (command, invoice, sum, text) = *row;
+        let answer = Answer {
+            command,
+            invoice,
+            total: sum,
+            credit: sum,
+            unpaid: sum,
+        };
+        reply_says(&rt, rt.alloc(), LaneReply::Accepted(answer), text)?;
     }
     Ok(())
 }
 
+fn reply_says(
+    rt: &impl Abort,
+    alloc: Global,
+    reply: LaneReply,
+    text: &str,
+) -> Result<(), SampleFault> {
+    says(rt, alloc, &Said::Reply(reply), text)
+}
+
 /// Replies, with their texts.
-const REPLIES: [(LaneReply, &str); 8] = [
+static REPLIES: [(LaneReply, &str); 8] = [
     (LaneReply::Version(2), "{'status':'ok','version':2}"),
     (LaneReply::States(0), "{'status':'ok','states':0}"),
     (
@@ -84,14 +108,14 @@ const REPLIES: [(LaneReply, &str); 8] = [
 
 #[test]
 fn other_replies(rt: HostRuntime) -> Result<(), Fail> {
-    for (reply, text) in REPLIES {
-        assert!(rt; is_said(rt.alloc(), &Said::Reply(reply), text)?, "{text}");
+    for (reply, text) in &REPLIES {
+        reply_says(&rt, rt.alloc(), *reply, text)?;
     }
     Ok(())
 }
 
 /// Steps, with their texts.
-const STEPS: [(Step, &str); 5] = [
+static STEPS: [(Step, &str); 5] = [
     (Step::Done, "{'status':'ok'}"),
     (Step::DiskFault, "{'status':'disk'}"),
     (Step::Stopped(0), "{'status':'stopped','count':0}"),
@@ -107,71 +131,80 @@ const STEPS: [(Step, &str); 5] = [
 
 #[test]
 fn steps_of_the_janitor(rt: HostRuntime) -> Result<(), Fail> {
-    for (step, text) in STEPS {
-        assert!(rt; is_said(rt.alloc(), &Said::Janitor(step), text)?, "{text}");
+    for (step, text) in &STEPS {
+        step_says(&rt, rt.alloc(), *step, text)?;
     }
     Ok(())
 }
+
+fn step_says(rt: &impl Abort, alloc: Global, step: Step, text: &str) -> Result<(), SampleFault> {
+    says(rt, alloc, &Said::Janitor(step), text)
+}
+
+/// What a line is that is no request, with the text of the answer.
+static FAULTS: [(&str, &str); 11] = [
+    ("no JSON", "{'status':'bad','fault':1}"),
+    ("no object", "{'status':'bad','fault':2}"),
+    ("no kind", "{'status':'bad','fault':3}"),
+    ("a member missing", "{'status':'bad','fault':4}"),
+    ("a member of another type", "{'status':'bad','fault':5}"),
+    ("a member not known", "{'status':'bad','fault':6}"),
+    (
+        "no name",
+        "{'status':'refused','number':1,'name':'BadName'}",
+    ),
+    (
+        "no date",
+        "{'status':'refused','number':2,'name':'BadDate'}",
+    ),
+    ("a text not TOML", "{'status':'text','fault':1}"),
+    ("a text too long", "{'status':'text','fault':7}"),
+    ("no memory", "{'status':'memory'}"),
+];
 
 #[test]
 fn lines_that_are_no_request(rt: HostRuntime) -> Result<(), Fail> {
-    let rows = [
-        (
-            RequestFault::Json(JsonFault::NotJson),
-            "{'status':'bad','fault':1}",
-        ),
-        (
-            RequestFault::Json(JsonFault::NotAnObject),
-            "{'status':'bad','fault':2}",
-        ),
-        (
-            RequestFault::Json(JsonFault::NoKind),
-            "{'status':'bad','fault':3}",
-        ),
-        (
-            RequestFault::Json(JsonFault::Missing),
-            "{'status':'bad','fault':4}",
-        ),
-        (
-            RequestFault::Json(JsonFault::WrongType),
-            "{'status':'bad','fault':5}",
-        ),
-        (
-            RequestFault::Json(JsonFault::Unknown),
-            "{'status':'bad','fault':6}",
-        ),
-        (
-            RequestFault::BadName,
-            "{'status':'refused','number':1,'name':'BadName'}",
-        ),
-        (
-            RequestFault::BadDate,
-            "{'status':'refused','number':2,'name':'BadDate'}",
-        ),
-        (
-            RequestFault::Text(TextFault::NotToml),
-            "{'status':'text','fault':1}",
-        ),
-        (
-            RequestFault::Text(TextFault::TooLong(60_001)),
-            "{'status':'text','fault':7}",
-        ),
-        (RequestFault::NoMemory, "{'status':'memory'}"),
-    ];
-    for (fault, text) in rows {
-        assert!(rt; is_said(rt.alloc(), &Said::Fault(fault), text)?, "{text}");
+    for (line, text) in &FAULTS {
+        fault_says(&rt, rt.alloc(), line, text)?;
     }
     Ok(())
 }
 
-/// Whether the text of a refusal begins with its number and its name.
-fn is_refused_as(alloc: Global, refusal: Refusal, number: u32, name: &str) -> Result<bool, Fail> {
+fn fault_says(rt: &impl Abort, alloc: Global, line: &str, text: &str) -> Result<(), SampleFault> {
+    says(rt, alloc, &Said::Fault(fault_of(line)), text)
+}
+
+/// The fault of a line that is so.
+fn fault_of(line: &str) -> RequestFault {
+    match line {
+        "no JSON" => RequestFault::Json(JsonFault::NotJson),
+        "no object" => RequestFault::Json(JsonFault::NotAnObject),
+        "no kind" => RequestFault::Json(JsonFault::NoKind),
+        "a member missing" => RequestFault::Json(JsonFault::Missing),
+        "a member of another type" => RequestFault::Json(JsonFault::WrongType),
+        "a member not known" => RequestFault::Json(JsonFault::Unknown),
+        "no name" => RequestFault::BadName,
+        "no date" => RequestFault::BadDate,
+        "a text not TOML" => RequestFault::Text(TextFault::NotToml),
+        "a text too long" => RequestFault::Text(TextFault::TooLong(60_001)),
+        _ => RequestFault::NoMemory,
+    }
+}
+
+/// The text of a refusal begins with its number and its name.
+fn refusal_says(
+    rt: &impl Abort,
+    alloc: Global,
+    refusal: Refusal,
+    number: u32,
+    name: &str,
+) -> Result<(), SampleFault> {
     let text = format!(in alloc; "{{'status':'refused','number':{number},'name':'{name}'}}")?;
-    is_said(alloc, &Said::Refused(refusal), text.as_str())
+    says(rt, alloc, &Said::Refused(refusal), text.as_str())
 }
 
 /// Refusals in the order of their numbers, with their names.
-const REFUSALS: [(Refusal, &str); 22] = [
+static REFUSALS: [(Refusal, &str); 22] = [
     (Refusal::BadName, "BadName"),
     (Refusal::BadDate, "BadDate"),
     (Refusal::NoAccount, "NoAccount"),
@@ -199,16 +232,21 @@ const REFUSALS: [(Refusal, &str); 22] = [
 #[test]
 fn refusals_by_number_and_name(rt: HostRuntime) -> Result<(), Fail> {
     let mut number = 0u32;
-    for (refusal, name) in REFUSALS {
+    for (refusal, name) in &REFUSALS {
         number = number.saturating_add(1);
-        assert!(rt; is_refused_as(rt.alloc(), refusal, number, name)?, "{name}");
+        refusal_says(&rt, rt.alloc(), *refusal, number, name)?;
     }
-    assert!(rt; is_refused_as(rt.alloc(), Refusal::VersionOrder, 24, "VersionOrder")?);
     Ok(())
 }
 
 #[test]
+fn the_refusal_of_a_version(rt: HostRuntime) -> Result<(), Fail> {
+    Ok(refusal_says(&rt, rt.alloc(), Refusal::VersionOrder, 24, "VersionOrder")?)
+}
+
+#[test]
 fn the_text_of_no_memory(rt: HostRuntime) -> Result<(), Fail> {
-    assert!(rt; MEMORY_TEXT == line(rt.alloc(), "{'status':'memory'}")?.as_slice());
+    let text = line(rt.alloc(), "{'status':'memory'}")?;
+    same(&rt, &MEMORY_TEXT, &text.as_slice(), &"memory");
     Ok(())
 }

@@ -1,11 +1,13 @@
 //! Lines that are refused, and the first of their faults.
 
+use crate::compare::same;
 use crate::lines::{fault, fault_of, line};
+use kb_samples::SampleFault;
 use std::alloc::Global;
 use std::test::Fail;
 
 /// Lines, with their faults as dated lines, and as ones that aren't.
-const FAULTS: [(&str, u32, u32); 34] = [
+static FAULTS: [(&str, u32, u32); 34] = [
     ("", 1, 1),
     ("{'do':'bill','account':'a1','key':'k1'", 1, 1),
     ("{'do':'bill','account':'a1','key':'k1'} 1", 1, 1),
@@ -88,39 +90,51 @@ const FAULTS: [(&str, u32, u32); 34] = [
 
 #[test]
 fn faults_come_in_order(rt: HostRuntime) -> Result<(), Fail> {
-    for (text, dated, undated) in FAULTS {
-        assert!(rt; fault(rt.alloc(), text, true)? == dated, "{text}");
-        assert!(rt; fault(rt.alloc(), text, false)? == undated, "{text}");
+    for row in &FAULTS {
+        same(&rt, &faults_of(rt.alloc(), row.0)?, &(row.1, row.2), &row.0);
     }
     Ok(())
 }
 
-/// A line with a value at a member of a kind: of a charge, a payment, an opening, a cancellation or a bill.
-fn line_with(alloc: Global, kind: u32, value: &str) -> Result<String, Fail> {
+/// The faults of a line as a dated one, and as one that isn't.
+fn faults_of(alloc: Global, text: &str) -> Result<(u32, u32), SampleFault> {
+    Ok((fault(alloc, text, true)?, fault(alloc, text, false)?))
+}
+
+/// A line up to the value of a member of a kind: of a charge, a payment, an opening, a cancellation or a bill.
+fn line_up_to(kind: u32) -> &'static str {
     match kind {
-        0 => Ok(format!(in alloc; "{{'do':'charge','account':'a1','key':'k1','amount':{value}}}")?),
-        1 => Ok(format!(in alloc; "{{'do':'invoice','account':'a1','invoice':{value}}}")?),
-        2 => {
-            let head = "{'do':'open','account':'a1','key':'k1','currency':'USD','bcd':";
-            Ok(format!(in alloc; "{head}{value}}}")?)
-        }
-        3 => Ok(format!(in alloc; "{{'do':'account','account':{value}}}")?),
-        4 => Ok(format!(in alloc; "{{'do':'bill','account':'a1','key':{value}}}")?),
-        _ => {
-            let head = "{'do':'bill','account':'a1','key':'k1','day':";
-            Ok(format!(in alloc; "{head}{value}}}")?)
-        }
+        0 => "{'do':'charge','account':'a1','key':'k1','amount':",
+        1 => "{'do':'invoice','account':'a1','invoice':",
+        2 => "{'do':'open','account':'a1','key':'k1','currency':'USD','bcd':",
+        3 => "{'do':'account','account':",
+        4 => "{'do':'bill','account':'a1','key':",
+        _ => "{'do':'bill','account':'a1','key':'k1','day':",
     }
 }
 
 /// The number of the fault of a line with a value.
-fn fault_with(alloc: Global, kind: u32, value: &str) -> Result<u32, Fail> {
-    let text = line_with(alloc, kind, value)?;
+fn fault_with(alloc: Global, kind: u32, value: &str) -> Result<u32, SampleFault> {
+    let head = line_up_to(kind);
+    let text = format!(in alloc; "{head}{value}}}")?;
     fault(alloc, text.as_str(), true)
 }
 
+/// The numbers of the faults of three lines with a value.
+fn faults_with(
+    alloc: Global,
+    kinds: (u32, u32, u32),
+    value: &str,
+) -> Result<(u32, u32, u32), SampleFault> {
+    Ok((
+        fault_with(alloc, kinds.0, value)?,
+        fault_with(alloc, kinds.1, value)?,
+        fault_with(alloc, kinds.2, value)?,
+    ))
+}
+
 /// Numbers, with their faults as an amount, as an invoice and as a day of the month.
-const NUMBERS: [(&str, u32, u32, u32); 21] = [
+static NUMBERS: [(&str, u32, u32, u32); 21] = [
     ("0", 5, 5, 5),
     ("1", 0, 0, 0),
     ("31", 0, 0, 0),
@@ -146,16 +160,15 @@ const NUMBERS: [(&str, u32, u32, u32); 21] = [
 
 #[test]
 fn numbers_at_their_ends(rt: HostRuntime) -> Result<(), Fail> {
-    for (number, amount, invoice, bcd) in NUMBERS {
-        assert!(rt; fault_with(rt.alloc(), 0, number)? == amount, "{number}");
-        assert!(rt; fault_with(rt.alloc(), 1, number)? == invoice, "{number}");
-        assert!(rt; fault_with(rt.alloc(), 2, number)? == bcd, "{number}");
+    for row in &NUMBERS {
+        let found = faults_with(rt.alloc(), (0, 1, 2), row.0)?;
+        same(&rt, &found, &(row.1, row.2, row.3), row);
     }
     Ok(())
 }
 
 /// Texts, with their faults as a name, as a key and as a day.
-const TEXTS: [(&str, u32, u32, u32); 21] = [
+static TEXTS: [(&str, u32, u32, u32); 21] = [
     ("''", 11, 11, 12),
     ("'a'", 0, 0, 12),
     ("'a b'", 11, 11, 12),
@@ -191,16 +204,15 @@ const TEXTS: [(&str, u32, u32, u32); 21] = [
 
 #[test]
 fn texts_at_their_ends(rt: HostRuntime) -> Result<(), Fail> {
-    for (text, name, key, day) in TEXTS {
-        assert!(rt; fault_with(rt.alloc(), 3, text)? == name, "{text}");
-        assert!(rt; fault_with(rt.alloc(), 4, text)? == key, "{text}");
-        assert!(rt; fault_with(rt.alloc(), 5, text)? == day, "{text}");
+    for row in &TEXTS {
+        let found = faults_with(rt.alloc(), (3, 4, 5), row.0)?;
+        same(&rt, &found, &(row.1, row.2, row.3), row);
     }
     Ok(())
 }
 
 /// A good line with some bytes before it and some behind it.
-fn between(alloc: Global, before: &[u8], behind: &[u8]) -> Result<Vec<u8>, Fail> {
+fn between(alloc: Global, before: &[u8], behind: &[u8]) -> Result<Vec<u8>, SampleFault> {
     let mut bytes = before.to_vec(alloc)?;
     bytes.extend_from_slice(&line(alloc, "{'do':'bill','account':'a1','key':'k1'}")?)?;
     bytes.extend_from_slice(behind)?;
@@ -208,13 +220,13 @@ fn between(alloc: Global, before: &[u8], behind: &[u8]) -> Result<Vec<u8>, Fail>
 }
 
 /// The number of the fault of such a line.
-fn fault_between(alloc: Global, before: &[u8], behind: &[u8]) -> Result<u32, Fail> {
+fn fault_between(alloc: Global, before: &[u8], behind: &[u8]) -> Result<u32, SampleFault> {
     fault_of(alloc, &between(alloc, before, behind)?, true)
 }
 
 #[test]
 fn odd_bytes(rt: HostRuntime) -> Result<(), Fail> {
-    let rows: [(&[u8], &[u8], u32); 7] = [
+    static ROWS: [(&[u8], &[u8], u32); 7] = [
         (b"", b"", 0),
         (b" \t\r", b" \t\r", 0),
         (b"\xef\xbb\xbf", b"", 1),
@@ -223,22 +235,19 @@ fn odd_bytes(rt: HostRuntime) -> Result<(), Fail> {
         (b"", b"\xff", 1),
         (b"\x0b", b"", 1),
     ];
-    for (before, behind, wanted) in rows {
-        assert!(rt; fault_between(rt.alloc(), before, behind)? == wanted);
+    for row in &ROWS {
+        same(&rt, &fault_between(rt.alloc(), row.0, row.1)?, &row.2, row);
     }
-    assert!(rt; fault_of(rt.alloc(), b"{\"do\":\"\xc3\x28\"}", true)? == 1);
+    let cut = fault_of(rt.alloc(), b"{\"do\":\"\xc3\x28\"}", true)?;
+    same(&rt, &cut, &1, &"half a letter");
     Ok(())
 }
 
 /// Brackets, nested so deep, as the value of a member that isn't known.
-fn nested(alloc: Global, depth: u32) -> Result<Vec<u8>, Fail> {
+fn nested(alloc: Global, depth: usize) -> Result<Vec<u8>, SampleFault> {
     let mut bytes = line(alloc, "{'do':'janitor','x':")?;
-    for _ in 0..depth {
-        bytes.push(b'[')?;
-    }
-    for _ in 0..depth {
-        bytes.push(b']')?;
-    }
+    bytes.extend_from_slice(&vec![in alloc; b'['; depth]?)?;
+    bytes.extend_from_slice(&vec![in alloc; b']'; depth]?)?;
     bytes.push(b'}')?;
     Ok(bytes)
 }
@@ -246,17 +255,19 @@ fn nested(alloc: Global, depth: u32) -> Result<Vec<u8>, Fail> {
 #[test]
 fn nested_deep(rt: HostRuntime) -> Result<(), Fail> {
     for (depth, wanted) in [(1, 6), (126, 6), (127, 1), (200, 1)] {
-        assert!(rt; fault_of(rt.alloc(), &nested(rt.alloc(), depth)?, true)? == wanted);
+        same(&rt, &fault_nested(rt.alloc(), depth)?, &wanted, &depth);
     }
     Ok(())
+}
+
+fn fault_nested(alloc: Global, depth: usize) -> Result<u32, SampleFault> {
+    fault_of(alloc, &nested(alloc, depth)?, true)
 }
 
 #[test]
 fn a_line_padded_with_blanks(rt: HostRuntime) -> Result<(), Fail> {
     let mut bytes = between(rt.alloc(), b"", b"")?;
-    for _ in bytes.len()..65_536 {
-        bytes.push(b' ')?;
-    }
-    assert!(rt; fault_of(rt.alloc(), &bytes, true)? == 0);
+    bytes.resize(65_536, b' ')?;
+    same(&rt, &fault_of(rt.alloc(), &bytes, true)?, &0, &"blanks");
     Ok(())
 }

@@ -4,6 +4,8 @@
 #[cfg(test)]
 mod answers;
 #[cfg(test)]
+mod compare;
+#[cfg(test)]
 mod faults;
 #[cfg(test)]
 mod lines;

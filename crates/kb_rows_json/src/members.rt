@@ -1,7 +1,10 @@
 //! Each kind of request without each of its members, with each of another type, and with one that isn't its own.
 
+use crate::compare::same;
 use crate::lines::fault;
+use kb_samples::SampleFault;
 use std::alloc::Global;
+use std::process::Abort;
 use std::test::Fail;
 
 /// A kind's word, its members with their values, and how many of them have to be there.
@@ -18,7 +21,7 @@ const B: (&str, &str) = ("bundle", "'b1'");
 const D: (&str, &str) = ("day", "'2024-03-10'");
 
 /// A line of each kind, with all of its members.
-const ROWS: [Row; 22] = [
+static ROWS: [Row; 22] = [
     ("catalog", &[K, ("text", "''")], 2),
     ("overdue", &[K, ("text", "''")], 2),
     (
@@ -117,19 +120,12 @@ enum Change {
 }
 
 /// The line of a row, with a change at the member of a place.
-fn changed(alloc: Global, row: Row, place: usize, change: Change) -> Result<String, Fail> {
-    let (word, members, _) = row;
+fn changed(alloc: Global, row: &Row, place: usize, change: Change) -> Result<String, SampleFault> {
+    let (word, members, _) = *row;
     let mut text = format!(in alloc; "{{'do':'{word}'")?;
-    for (index, (name, value)) in members.iter().enumerate() {
-        let is_changed = index == place;
-        if !(is_changed && change == Change::Without) {
-            let value = if is_changed && change == Change::OtherType {
-                "{}"
-            } else {
-                *value
-            };
-            push_member(&mut text, name, value)?;
-        }
+    for (index, member) in members.iter().enumerate() {
+        let of = if index == place { Some(change) } else { None };
+        push_changed(&mut text, *member, of)?;
     }
     if change == Change::Unknown {
         push_member(&mut text, "colour", "1")?;
@@ -138,41 +134,59 @@ fn changed(alloc: Global, row: Row, place: usize, change: Change) -> Result<Stri
     Ok(text)
 }
 
-fn push_member(text: &mut String, name: &str, value: &str) -> Result<(), Fail> {
-    text.push_str(",'")?;
-    text.push_str(name)?;
-    text.push_str("':")?;
-    text.push_str(value)?;
+/// Adds a member with a change of it, or as it is.
+fn push_changed(
+    text: &mut String,
+    member: (&str, &str),
+    change: Option<Change>,
+) -> Result<(), SampleFault> {
+    match change {
+        Some(Change::Without) => Ok(()),
+        Some(Change::OtherType) => push_member(text, member.0, "{}"),
+        _ => push_member(text, member.0, member.1),
+    }
+}
+
+fn push_member(text: &mut String, name: &str, value: &str) -> Result<(), SampleFault> {
+    write!(text, ",'{name}':{value}")?;
     Ok(())
 }
 
 /// The number of the fault of such a line.
-fn fault_at(alloc: Global, row: Row, place: usize, change: Change) -> Result<u32, Fail> {
+fn fault_at(alloc: Global, row: &Row, place: usize, change: Change) -> Result<u32, SampleFault> {
     fault(alloc, changed(alloc, row, place, change)?.as_str(), true)
 }
 
-/// Whether a kind's lines are judged as they should be, with each member changed.
-fn is_judged(alloc: Global, row: Row) -> Result<bool, Fail> {
-    let (_, members, needed) = row;
+/// A kind's lines are judged as they should be, with each member changed.
+fn is_judged(rt: &impl Abort, alloc: Global, row: &Row) -> Result<(), SampleFault> {
+    let (word, members, needed) = *row;
     for place in 0..members.len() {
         let missing = if place < needed { 4 } else { 0 };
-        let without = fault_at(alloc, row, place, Change::Without)?;
-        let other = fault_at(alloc, row, place, Change::OtherType)?;
-        if without != missing || other != 5 {
-            return Ok(false);
-        }
+        let faults = faults_at(alloc, row, place)?;
+        same(rt, &faults, &(missing, 5), &(word, place));
     }
-    Ok(fault_at(alloc, row, 0, Change::Unknown)? == 6)
+    // An empty catalog text has a fault of its own.
+    let whole = if word == "catalog" { 22 } else { 0 };
+    same(rt, &faults_beside(alloc, row)?, &(whole, 6), &word);
+    Ok(())
+}
+
+/// The faults of a row's line without the member of a place, and with a value of another type there.
+fn faults_at(alloc: Global, row: &Row, place: usize) -> Result<(u32, u32), SampleFault> {
+    let without = fault_at(alloc, row, place, Change::Without)?;
+    Ok((without, fault_at(alloc, row, place, Change::OtherType)?))
+}
+
+/// The faults of a row's line as it is, and with a member that isn't known.
+fn faults_beside(alloc: Global, row: &Row) -> Result<(u32, u32), SampleFault> {
+    let whole = fault_at(alloc, row, 99, Change::Without)?;
+    Ok((whole, fault_at(alloc, row, 0, Change::Unknown)?))
 }
 
 #[test]
 fn members_are_missing_or_of_another_type(rt: HostRuntime) -> Result<(), Fail> {
-    for row in ROWS {
-        let (word, _, _) = row;
-        // An empty catalog text has a fault of its own.
-        let whole = if word == "catalog" { 22 } else { 0 };
-        assert!(rt; fault_at(rt.alloc(), row, 99, Change::Without)? == whole);
-        assert!(rt; is_judged(rt.alloc(), row)?);
+    for row in &ROWS {
+        is_judged(&rt, rt.alloc(), row)?;
     }
     Ok(())
 }

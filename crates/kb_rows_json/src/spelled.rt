@@ -1,19 +1,14 @@
 //! Lines of each kind, and the bytes of the commands that they ask for.
 
-use crate::lines::{fault, line, request, spelling, today, told};
-use kb_codec::Command;
-use kb_request::What;
-use kb_samples::{OVERDUE, SHOP};
+use crate::compare::same;
+use crate::lines::{Look, fault, is_asked, line, looked_at};
+use kb_samples::{OVERDUE, SHOP, SampleFault};
 use std::alloc::Global;
+use std::process::Abort;
 use std::test::Fail;
 
-/// Whether a line is a command with these bytes.
-fn is_spelled(alloc: Global, text: &str, bytes: &[u8]) -> Result<bool, Fail> {
-    Ok(spelling(alloc, text)?.as_slice() == bytes)
-}
-
 /// Lines, with the bytes of their commands.
-const COMMANDS: [(&str, &[u8]); 19] = [
+static COMMANDS: [(&str, &[u8]); 19] = [
     (
         "{'do':'open','account':'a1','key':'k1','currency':'USD','bcd':1}",
         b"\x03\x02a1\x02k1USD\x01\x00",
@@ -94,14 +89,14 @@ const COMMANDS: [(&str, &[u8]); 19] = [
 
 #[test]
 fn commands_are_read(rt: HostRuntime) -> Result<(), Fail> {
-    for (text, bytes) in COMMANDS {
-        assert!(rt; is_spelled(rt.alloc(), text, bytes)?);
+    for (text, bytes) in &COMMANDS {
+        is_asked(&rt, rt.alloc(), text, (false, Look::Spelling), bytes)?;
     }
     Ok(())
 }
 
 /// Lines, with what else than a command they ask for.
-const QUERIES: [(&str, &str); 7] = [
+static QUERIES: [(&str, &str); 7] = [
     ("{'do':'janitor'}", "janitor"),
     ("{'do':'account','account':'a1'}", "account a1"),
     (
@@ -128,23 +123,35 @@ const QUERIES: [(&str, &str); 7] = [
 
 #[test]
 fn queries_are_read(rt: HostRuntime) -> Result<(), Fail> {
-    for (text, wanted) in QUERIES {
-        assert!(rt; told(rt.alloc(), text)?.as_str() == wanted);
+    for (text, wanted) in &QUERIES {
+        is_asked(&rt, rt.alloc(), text, (true, Look::What), wanted.as_bytes())?;
     }
     Ok(())
 }
 
 #[test]
 fn days_of_lines(rt: HostRuntime) -> Result<(), Fail> {
-    let alloc = rt.alloc();
-    let dated = "{'do':'bill','account':'a1','key':'k1','today':'2024-03-10','day':'2024-04-01'}";
-    assert!(rt; today(alloc, dated)?.as_str() == "2024-03-10");
-    assert!(rt; today(alloc, "{'do':'janitor'}")?.as_str() == "-");
+    static ROWS: [(&str, &str); 2] = [
+        (
+            "{'do':'bill','account':'a1','key':'k1','today':'2024-03-10','day':'2024-04-01'}",
+            "2024-03-10",
+        ),
+        ("{'do':'janitor'}", "-"),
+    ];
+    for (text, wanted) in &ROWS {
+        is_asked(
+            &rt,
+            rt.alloc(),
+            text,
+            (true, Look::Today),
+            wanted.as_bytes(),
+        )?;
+    }
     Ok(())
 }
 
 /// A text as a string of JSON.
-fn escaped(alloc: Global, text: &str) -> Result<Vec<u8>, Fail> {
+fn escaped(alloc: Global, text: &str) -> Result<Vec<u8>, SampleFault> {
     let mut bytes = Vec::new(alloc);
     for byte in text.as_bytes() {
         match *byte {
@@ -156,45 +163,40 @@ fn escaped(alloc: Global, text: &str) -> Result<Vec<u8>, Fail> {
     Ok(bytes)
 }
 
-/// The line that hands in a text.
-fn handing_in(alloc: Global, word: &str, text: &str) -> Result<Vec<u8>, Fail> {
-    let mut bytes = line(alloc, "{'key':'k1','do':'")?;
-    bytes.extend_from_slice(word.as_bytes())?;
-    bytes.extend_from_slice(&line(alloc, "','text':'")?)?;
+/// The line that hands in a text: a line up to the text, the text, and the end.
+fn handing_in(alloc: Global, word: &str, text: &str) -> Result<Vec<u8>, SampleFault> {
+    let head = format!(in alloc; "{{'key':'k1','do':'{word}','text':'")?;
+    let mut bytes = line(alloc, head.as_str())?;
     bytes.extend_from_slice(&escaped(alloc, text)?)?;
     bytes.extend_from_slice(b"\"}")?;
     Ok(bytes)
 }
 
-/// Whether a line hands in this text.
-fn hands_in(alloc: Global, word: &str, text: &str) -> Result<bool, Fail> {
-    let request = request(alloc, &handing_in(alloc, word, text)?, false)?;
-    match &request.what {
-        What::Command(Command::Catalog(catalog)) => { Ok(catalog.text.text() == text.as_bytes()) }
-        What::Command(Command::OverdueRules(rules)) => { Ok(rules.text.text() == text.as_bytes()) }
-        _ => Ok(false),
-    }
+/// A line hands in this text.
+fn hands_in(rt: &impl Abort, alloc: Global, word: &str, text: &str) -> Result<(), SampleFault> {
+    let bytes = handing_in(alloc, word, text)?;
+    let found = looked_at(alloc, &bytes, false, Look::Text)?;
+    same(rt, &found.as_slice(), &text.as_bytes(), &word);
+    Ok(())
 }
 
 #[test]
 fn texts_are_read(rt: HostRuntime) -> Result<(), Fail> {
-    let alloc = rt.alloc();
-    assert!(rt; hands_in(alloc, "catalog", SHOP)?);
-    assert!(rt; hands_in(alloc, "overdue", OVERDUE)?);
-    assert!(rt; fault(alloc, "{'do':'catalog','key':'k1','text':'='}", false)? == 21);
-    assert!(rt;
-        fault(
-            alloc,
-            "{'do':'catalog','key':'k1','text':'format = 1'}",
-            false
-        )? == 22
-    );
-    assert!(rt;
-        fault(
-            alloc,
-            "{'do':'overdue','key':'k1','text':'colour = 1'}",
-            false
-        )? == 24
-    );
+    for (word, text) in [("catalog", SHOP), ("overdue", OVERDUE)] {
+        hands_in(&rt, rt.alloc(), word, text)?;
+    }
+    Ok(())
+}
+
+#[test]
+fn texts_that_are_refused(rt: HostRuntime) -> Result<(), Fail> {
+    static ROWS: [(&str, u32); 3] = [
+        ("{'do':'catalog','key':'k1','text':'='}", 21),
+        ("{'do':'catalog','key':'k1','text':'format = 1'}", 22),
+        ("{'do':'overdue','key':'k1','text':'colour = 1'}", 24),
+    ];
+    for (text, number) in &ROWS {
+        same(&rt, &fault(rt.alloc(), text, false)?, number, text);
+    }
     Ok(())
 }
