@@ -328,25 +328,48 @@ fn holds<L: Ledger>(
     let mut charges = without_items(alloc, created(turns))?;
     let mut next = 1;
     for turn in turns {
-        let (told, billed, wanted) = *turn;
-        for step in told {
-            account.take(alloc, shop, *step)?;
-        }
+        account = taken(alloc, shop, account, turn.0)?;
         let facts = facts(shop, &account, number)?;
-        let (made, lines, after) = billed_up_to(
-            rt,
-            alloc,
-            &facts,
-            day(billed)?,
-            &charges,
-            next,
-            steps,
-        )?;
-        same(rt, &wrong_place(&lines, wanted)?, &None, &name);
+        let (made, after) = turn_holds(rt, alloc, &facts, (name, turn), &charges, next, steps)?;
         charges = made;
         next = after;
     }
     Ok(())
+}
+
+/// An account to which something more has happened.
+fn taken(
+    alloc: Global,
+    shop: &Catalog,
+    before: Account,
+    told: &[Step],
+) -> Result<Account, SampleFault> {
+    let mut account = before;
+    for step in told {
+        account.take(alloc, shop, *step)?;
+    }
+    Ok(account)
+}
+
+/// Holds the lines of a turn; the result is what is charged to the subscriptions then, and the number that
+/// comes next.
+fn turn_holds<L: Ledger>(
+    rt: &impl Abort,
+    alloc: Global,
+    facts: &Facts,
+    of: (&str, &Turn),
+    charges: &[SubscriptionCharges],
+    first: ItemNo,
+    steps: &mut Steps<L>,
+) -> Result<(Vec<SubscriptionCharges>, ItemNo), Fail>
+    requires below { All (AreBelow first) charges.now }
+    ensures below { IfOk result (λ made. All (AreBelow made.1) made.0.items) }
+{
+    let (name, turn) = of;
+    let billed = day(turn.1)?;
+    let (made, lines, after) = billed_up_to(rt, alloc, facts, billed, charges, first, steps)?;
+    same(rt, &wrong_place(&lines, turn.2)?, &None, &name);
+    Ok((made, after))
 }
 
 /// How many subscriptions are created in the first turn.
