@@ -5,11 +5,11 @@ use kb_base::Seq;
 use kb_catalog::{Category, Phase, PhaseType, Plan, Price, Product, Rules, Version};
 use kb_days::{Day, Name, Period, Span};
 use kb_money::{Currency, Minor};
+use kb_samples::SampleFault;
 use std::alloc::Global;
-use std::test::Fail;
 
 #[test]
-fn a_currency_twice(rt: HostRuntime) -> Result<(), Fail> {
+fn a_currency_twice(rt: HostRuntime) -> Result<(), SampleFault> {
     let version = priced_twice(rt.alloc())?;
     assert!(rt; version.has_counts());
     let fault = version
@@ -21,14 +21,14 @@ fn a_currency_twice(rt: HostRuntime) -> Result<(), Fail> {
 }
 
 /// A version of one product and one plan, without a list and without a case.
-fn priced_twice(alloc: Global) -> Result<Version, Fail> {
+fn priced_twice(alloc: Global) -> Result<Version, SampleFault> {
     let (usd, basic) = (
-        Currency::new(b"USD").ok_or("a currency")?,
-        Name::new(b"Basic").ok_or("a name")?,
+        Currency::new(b"USD").ok_or(SampleFault::Word)?,
+        Name::new(b"Basic").ok_or(SampleFault::Word)?,
     );
     let phases = Seq::from_vec(vec![in alloc; phase(alloc, usd)?]?);
     Ok(Version {
-        effective: Day::new(kb_days::FIRST_DAY).ok_or("a day")?,
+        effective: Day::new(kb_days::FIRST_DAY).ok_or(SampleFault::Word)?,
         currencies: Seq::from_vec(vec![in alloc; usd]?),
         products: Seq::from_vec(vec![in alloc; product(alloc, basic)]?),
         plans: Seq::from_vec(vec![in alloc;
@@ -53,12 +53,12 @@ fn product(alloc: Global, name: Name) -> Product {
 }
 
 /// A phase without end, at 1 and at 2 a month.
-fn phase(alloc: Global, currency: Currency) -> Result<Phase, Fail> {
+fn phase(alloc: Global, currency: Currency) -> Result<Phase, SampleFault> {
     let mut recurring = Seq::new(alloc);
     for units in [1, 2] {
         recurring.push(Price {
             currency,
-            amount: Minor::new(units).ok_or("an amount")?,
+            amount: Minor::new(units).ok_or(SampleFault::Word)?,
         })?;
     }
     Ok(Phase {

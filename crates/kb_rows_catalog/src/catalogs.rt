@@ -7,7 +7,6 @@ use kb_days::{Day, text};
 use kb_samples::{DEARER_CLUB, SampleFault, day};
 use std::alloc::Global;
 use std::process::Abort;
-use std::test::Fail;
 
 /// A version from a date on.
 fn dated(alloc: Global, date: &str) -> Result<Valid, SampleFault> {
@@ -16,19 +15,25 @@ fn dated(alloc: Global, date: &str) -> Result<Valid, SampleFault> {
 }
 
 /// A catalog of versions from these dates on.
-fn catalog_of(alloc: Global, dates: &[&str]) -> Result<Catalog, Fail> {
+fn catalog_of(alloc: Global, dates: &[&str]) -> Result<Catalog, SampleFault> {
     let mut catalog = Catalog::new(alloc);
     for date in dates {
-        catalog = catalog.add(alloc, dated(alloc, date)?)?;
+        catalog = catalog
+            .add(alloc, dated(alloc, date)?)
+            .ok()
+            .ok_or(SampleFault::Catalog)?;
     }
     Ok(catalog)
 }
 
 /// A catalog of so many versions: one each day from 2024-10-04 on.
-fn daily(alloc: Global, count: u32) -> Result<Catalog, Fail> {
+fn daily(alloc: Global, count: u32) -> Result<Catalog, SampleFault> {
     let mut catalog = Catalog::new(alloc);
     for offset in 0..count {
-        catalog = catalog.add(alloc, dated_after(alloc, offset)?)?;
+        catalog = catalog
+            .add(alloc, dated_after(alloc, offset)?)
+            .ok()
+            .ok_or(SampleFault::Catalog)?;
     }
     Ok(catalog)
 }
@@ -42,7 +47,7 @@ fn dated_after(alloc: Global, offset: u32) -> Result<Valid, SampleFault> {
 }
 
 /// A day, and the place of its version.
-const PLACES: [(&str, Option<u32>); 9] = [
+static PLACES: [(&str, Option<u32>); 9] = [
     ("2000-01-01", None),
     ("2024-10-03", None),
     ("2024-10-04", Some(0)),
@@ -55,9 +60,9 @@ const PLACES: [(&str, Option<u32>); 9] = [
 ];
 
 #[test]
-fn the_version_of_a_day(rt: HostRuntime) -> Result<(), Fail> {
+fn the_version_of_a_day(rt: HostRuntime) -> Result<(), SampleFault> {
     let catalog = catalog_of(rt.alloc(), &["2024-10-04", "2025-01-12", "2025-04-22"])?;
-    Ok(has_three_versions(&rt, &catalog)?)
+    has_three_versions(&rt, &catalog)
 }
 
 fn has_three_versions(rt: &impl Abort, catalog: &Catalog) -> Result<(), SampleFault> {
@@ -70,7 +75,7 @@ fn has_three_versions(rt: &impl Abort, catalog: &Catalog) -> Result<(), SampleFa
 }
 
 #[test]
-fn no_version_of_a_day(rt: HostRuntime) -> Result<(), Fail> {
+fn no_version_of_a_day(rt: HostRuntime) -> Result<(), SampleFault> {
     let catalog = Catalog::new(rt.alloc());
     let place = catalog.version_at(day("2024-10-04")?);
     same(&rt, &place, &None, &"no version");
@@ -89,8 +94,8 @@ fn second_day(catalog: &Catalog) -> Option<Day> {
 type Added = (u32, &'static str, Result<u32, AddFault>);
 
 #[test]
-fn versions_that_are_added(rt: HostRuntime) -> Result<(), Fail> {
-    const ROWS: [Added; 8] = [
+fn versions_that_are_added(rt: HostRuntime) -> Result<(), SampleFault> {
+    static ROWS: [Added; 8] = [
         (0, "2000-01-01", Ok(1)),
         (1, "2024-10-05", Ok(2)),
         (1, "2024-10-04", Err(AddFault::VersionOrder)),
@@ -107,7 +112,7 @@ fn versions_that_are_added(rt: HostRuntime) -> Result<(), Fail> {
     Ok(())
 }
 
-fn version_is_added(rt: &impl Abort, alloc: Global, row: &Added) -> Result<(), Fail> {
+fn version_is_added(rt: &impl Abort, alloc: Global, row: &Added) -> Result<(), SampleFault> {
     let (count, date, larger) = *row;
     let catalog = daily(alloc, count)?;
     let added = length_with(alloc, &catalog, date)?;
@@ -120,7 +125,7 @@ fn length_with(
     alloc: Global,
     catalog: &Catalog,
     date: &str,
-) -> Result<Result<u32, AddFault>, Fail> {
+) -> Result<Result<u32, AddFault>, SampleFault> {
     match catalog.add(alloc, dated(alloc, date)?) {
         Ok(longer) => Ok(Ok(longer.len())),
         Err(fault) => Ok(Err(fault)),

@@ -11,7 +11,6 @@ use kb_days::Period;
 use kb_samples::{SHOP, SampleFault, catalog, name};
 use std::alloc::Global;
 use std::process::Abort;
-use std::test::Fail;
 
 /// Two lists, of which SALE sells another plan for Basic and a month, and one for a year; and rules of their
 /// own.
@@ -76,7 +75,7 @@ fn ask(
 /// A product, a period and a list; and the places of the list and of the plan that are found.
 type Place = (&'static str, Period, &'static str, Option<(u32, u32)>);
 
-const ROWS: [Place; 12] = [
+static ROWS: [Place; 12] = [
     ("Basic", Period::Monthly, "DEFAULT", Some((0, 0))),
     ("Pro", Period::Monthly, "DEFAULT", Some((0, 3))),
     ("Basic", Period::Monthly, "SALE", Some((1, 7))),
@@ -95,9 +94,9 @@ const ROWS: [Place; 12] = [
 ];
 
 #[test]
-fn plans_by_product_period_and_list(rt: HostRuntime) -> Result<(), Fail> {
+fn plans_by_product_period_and_list(rt: HostRuntime) -> Result<(), SampleFault> {
     let shop = two_lists(rt.alloc())?;
-    Ok(plans_are_found(&rt, &shop)?)
+    plans_are_found(&rt, &shop)
 }
 
 fn plans_are_found(rt: &impl Abort, catalog: &Catalog) -> Result<(), SampleFault> {

@@ -4,19 +4,24 @@ use crate::compare::same;
 use kb_catalog::{AddFault, CatalogFault, Rule};
 use kb_catalog_text::{read, read_overdue};
 use kb_overdue::{ConfigFault, ConfigRule};
+use kb_samples::SampleFault;
 use std::alloc::Global;
 use std::fmt::Display;
 use std::process::Abort;
-use std::test::Fail;
 
 /// A fault is told by this text.
-fn says<T: Display>(rt: &impl Abort, alloc: Global, fault: &T, answer: &str) -> Result<(), Fail> {
+fn says<T: Display>(
+    rt: &impl Abort,
+    alloc: Global,
+    fault: &T,
+    answer: &str,
+) -> Result<(), SampleFault> {
     same(rt, &fault.to_string(alloc)?.as_str(), &answer, &"a fault");
     Ok(())
 }
 
 #[test]
-fn faults_of_catalogs(rt: HostRuntime) -> Result<(), Fail> {
+fn faults_of_catalogs(rt: HostRuntime) -> Result<(), SampleFault> {
     let order = "the version isn't after the last one: give it a later date";
     says(&rt, rt.alloc(), &AddFault::VersionOrder, order)?;
     let limit = "the catalog has 64 versions and takes no more";
@@ -31,7 +36,7 @@ fn faults_of_catalogs(rt: HostRuntime) -> Result<(), Fail> {
 }
 
 #[test]
-fn faults_of_overdue_states(rt: HostRuntime) -> Result<(), Fail> {
+fn faults_of_overdue_states(rt: HostRuntime) -> Result<(), SampleFault> {
     let fault = ConfigFault {
         rule: ConfigRule::Count,
         index: 16,
@@ -41,8 +46,8 @@ fn faults_of_overdue_states(rt: HostRuntime) -> Result<(), Fail> {
 }
 
 #[test]
-fn faults_of_texts(rt: HostRuntime) -> Result<(), Fail> {
-    const ROWS: [(&str, &str); 5] = [
+fn faults_of_texts(rt: HostRuntime) -> Result<(), SampleFault> {
+    static ROWS: [(&str, &str); 5] = [
         (
             "state",
             "the text isn't TOML: correct what a TOML reader complains of",
@@ -68,16 +73,16 @@ fn faults_of_texts(rt: HostRuntime) -> Result<(), Fail> {
 }
 
 /// An overdue text is refused, and this is told of it.
-fn is_refused(rt: &impl Abort, alloc: Global, text: &str, answer: &str) -> Result<(), Fail> {
+fn is_refused(rt: &impl Abort, alloc: Global, text: &str, answer: &str) -> Result<(), SampleFault> {
     let fault = read_overdue(alloc, text.as_bytes().to_vec(alloc)?).err();
-    says(rt, alloc, &fault.ok_or("a fault")?, answer)
+    says(rt, alloc, &fault.ok_or(SampleFault::Word)?, answer)
 }
 
 #[test]
-fn the_fault_of_a_long_text(rt: HostRuntime) -> Result<(), Fail> {
+fn the_fault_of_a_long_text(rt: HostRuntime) -> Result<(), SampleFault> {
     let mut text = Vec::new(rt.alloc());
     text.resize(60_001, b' ')?;
-    let fault = read(rt.alloc(), text).err().ok_or("a fault")?;
+    let fault = read(rt.alloc(), text).err().ok_or(SampleFault::Word)?;
     let answer = "the text has 60001 bytes: shorten it to 60000";
     says(&rt, rt.alloc(), &fault, answer)
 }

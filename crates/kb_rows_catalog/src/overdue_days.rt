@@ -6,7 +6,6 @@ use kb_days::Day;
 use kb_overdue::{Arrears, state_on};
 use kb_samples::{OVERDUE, SampleFault, day};
 use std::alloc::Global;
-use std::test::Fail;
 
 /// States with all three conditions, with a count alone, and with a total alone.
 const THREE: &str = r#"state = [
@@ -26,7 +25,7 @@ type Row = (
     Option<u32>,
 );
 
-const ROWS: [Row; 21] = [
+static ROWS: [Row; 21] = [
     // the shop's states go by days alone: 7, and 14
     (OVERDUE, "2024-03-01", 1, 1000, "2024-03-07", None),
     (OVERDUE, "2024-03-01", 1, 1000, "2024-03-08", Some(1)),
@@ -59,7 +58,7 @@ const ROWS: [Row; 21] = [
 ];
 
 #[test]
-fn states_of_days(rt: HostRuntime) -> Result<(), Fail> {
+fn states_of_days(rt: HostRuntime) -> Result<(), SampleFault> {
     for row in &ROWS {
         same(&rt, &place_of(rt.alloc(), row)?, &row.5, row);
     }

@@ -8,7 +8,6 @@ use kb_samples::SampleFault;
 use std::alloc::Global;
 use std::fmt::Display;
 use std::process::Abort;
-use std::test::Fail;
 
 /// A text of states, one for each letter: a capital has a condition, a small letter has none, and a star is
 /// named CLEAR.
@@ -32,9 +31,9 @@ fn push_state<N: Display>(text: &mut String, name: &N, condition: &str) -> Resul
 }
 
 #[test]
-fn the_first_fault(rt: HostRuntime) -> Result<(), Fail> {
+fn the_first_fault(rt: HostRuntime) -> Result<(), SampleFault> {
     // the states, and the rule and the place that are told
-    const ROWS: [(&str, &str); 13] = [
+    static ROWS: [(&str, &str); 13] = [
         ("", "ok"),
         ("A", "ok"),
         ("ABCDEFGHIJKLMNOP", "ok"),
@@ -74,8 +73,8 @@ fn state(row: &State) -> Result<OverdueState, SampleFault> {
 }
 
 #[test]
-fn states_are_handed_back(rt: HostRuntime) -> Result<(), Fail> {
-    const CASES: [[State; 2]; 2] = [
+fn states_are_handed_back(rt: HostRuntime) -> Result<(), SampleFault> {
+    static CASES: [[State; 2]; 2] = [
         [("BLOCKED", 14, 0, 0, true), ("WARNING", 7, 0, 0, false)],
         [("MANY", 0, 3, 0, false), ("MUCH", 0, 0, 1000, false)],
     ];
@@ -85,7 +84,7 @@ fn states_are_handed_back(rt: HostRuntime) -> Result<(), Fail> {
     Ok(())
 }
 
-fn are_handed_back(rt: &impl Abort, alloc: Global, rows: &[State; 2]) -> Result<(), Fail> {
+fn are_handed_back(rt: &impl Abort, alloc: Global, rows: &[State; 2]) -> Result<(), SampleFault> {
     let states = [state(&rows[0])?, state(&rows[1])?];
     let config = Config::check(states.to_vec(alloc)?).ok();
     let is_same = config.is_some_and(|config| config.states() == states.as_slice());
@@ -94,8 +93,8 @@ fn are_handed_back(rt: &impl Abort, alloc: Global, rows: &[State; 2]) -> Result<
 }
 
 #[test]
-fn ends_of_a_threshold(rt: HostRuntime) -> Result<(), Fail> {
-    const ROWS: [(u64, bool); 6] = [
+fn ends_of_a_threshold(rt: HostRuntime) -> Result<(), SampleFault> {
+    static ROWS: [(u64, bool); 6] = [
         (0, false),
         (1, true),
         (2, true),

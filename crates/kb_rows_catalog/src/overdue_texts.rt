@@ -7,10 +7,9 @@ use kb_overdue::{OverdueState, Threshold};
 use kb_samples::{OVERDUE, SampleFault};
 use std::alloc::Global;
 use std::process::Abort;
-use std::test::Fail;
 
 #[test]
-fn the_shops_states_are_read(rt: HostRuntime) -> Result<(), Fail> {
+fn the_shops_states_are_read(rt: HostRuntime) -> Result<(), SampleFault> {
     let checked = overdue(rt.alloc(), OVERDUE)?;
     are_the_shops(&rt, &checked);
     Ok(())
@@ -45,7 +44,7 @@ fn is_state(states: &[OverdueState], place: usize, name: &str, days: u64, blocks
 }
 
 #[test]
-fn a_text_may_have_no_state(rt: HostRuntime) -> Result<(), Fail> {
+fn a_text_may_have_no_state(rt: HostRuntime) -> Result<(), SampleFault> {
     for text in ["", "# none", "state = []"] {
         same(&rt, &states_in(rt.alloc(), text)?, &0, &text);
     }
@@ -58,8 +57,8 @@ fn states_in(alloc: Global, text: &str) -> Result<usize, SampleFault> {
 }
 
 #[test]
-fn changes_to_the_states(rt: HostRuntime) -> Result<(), Fail> {
-    const ROWS: [(&str, &str, &str); 32] = [
+fn changes_to_the_states(rt: HostRuntime) -> Result<(), SampleFault> {
+    static ROWS: [(&str, &str, &str); 32] = [
         ("name=\"BLOCKED\", ", "", "2 name"),
         ("\"BLOCKED\"", "5", "3 name"),
         ("\"BLOCKED\"", "\"BLOCKED \"", "3 name"),
@@ -105,8 +104,8 @@ fn changes_to_the_states(rt: HostRuntime) -> Result<(), Fail> {
 }
 
 #[test]
-fn texts_of_states(rt: HostRuntime) -> Result<(), Fail> {
-    const ROWS: [(&str, &str); 11] = [
+fn texts_of_states(rt: HostRuntime) -> Result<(), SampleFault> {
+    static ROWS: [(&str, &str); 11] = [
         ("state = 5", "3 state"),
         ("state = {name='A'}", "3 state"),
         ("state = [{}]", "2 name"),
@@ -135,7 +134,7 @@ fn texts_of_states(rt: HostRuntime) -> Result<(), Fail> {
 }
 
 #[test]
-fn sixteen_states_at_most(rt: HostRuntime) -> Result<(), Fail> {
+fn sixteen_states_at_most(rt: HostRuntime) -> Result<(), SampleFault> {
     for (count, answer) in [(1, "ok"), (16, "ok"), (17, "5 1 16"), (40, "5 1 16")] {
         let text = so_many(rt.alloc(), count)?;
         overdue_is_told(&rt, rt.alloc(), text.as_bytes(), answer, &count)?;

@@ -6,10 +6,9 @@ use kb_catalog::{Catalog, Phase, Version};
 use kb_money::{Currency, Minor};
 use kb_samples::{SHOP, SampleFault, catalog, name};
 use std::process::Abort;
-use std::test::Fail;
 
 /// A product, and whether Support may be had with it, if it is there.
-const OFFERS: [(&str, Option<bool>); 4] = [
+static OFFERS: [(&str, Option<bool>); 4] = [
     ("Basic", Some(true)),
     ("Pro", Some(false)),
     ("Support", Some(false)),
@@ -17,9 +16,9 @@ const OFFERS: [(&str, Option<bool>); 4] = [
 ];
 
 #[test]
-fn products_of_the_shop(rt: HostRuntime) -> Result<(), Fail> {
+fn products_of_the_shop(rt: HostRuntime) -> Result<(), SampleFault> {
     let catalog = catalog(rt.alloc(), &[SHOP])?;
-    Ok(offers_are(&rt, &catalog)?)
+    offers_are(&rt, &catalog)
 }
 
 fn offers_are(rt: &impl Abort, catalog: &Catalog) -> Result<(), SampleFault> {
@@ -43,7 +42,7 @@ fn offers_support(version: &Version, product: &str) -> Result<Option<bool>, Samp
 /// A plan, its phase, a currency, and the fixed and the recurring price.
 type Priced = (usize, usize, &'static str, Option<u64>, Option<u64>);
 
-const PRICES: [Priced; 4] = [
+static PRICES: [Priced; 4] = [
     (2, 0, "USD", Some(0), None),
     (2, 1, "USD", None, Some(1000)),
     (3, 0, "USD", None, Some(3100)),
@@ -51,9 +50,9 @@ const PRICES: [Priced; 4] = [
 ];
 
 #[test]
-fn prices_of_the_shop(rt: HostRuntime) -> Result<(), Fail> {
+fn prices_of_the_shop(rt: HostRuntime) -> Result<(), SampleFault> {
     let catalog = catalog(rt.alloc(), &[SHOP])?;
-    Ok(prices_are(&rt, &catalog)?)
+    prices_are(&rt, &catalog)
 }
 
 fn prices_are(rt: &impl Abort, catalog: &Catalog) -> Result<(), SampleFault> {

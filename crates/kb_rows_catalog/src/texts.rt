@@ -15,13 +15,15 @@ use kb_days::{Count, Span};
 use kb_samples::{OVERDUE, SHOP, SampleFault, day};
 use std::alloc::Global;
 use std::process::Abort;
-use std::test::Fail;
 
 #[test]
-fn the_shop_is_read(rt: HostRuntime) -> Result<(), Fail> {
-    let bytes = SHOP.as_bytes().to_vec(rt.alloc())?;
-    let checked = read(rt.alloc(), bytes).ok().ok_or(SampleFault::Catalog)?;
-    Ok(is_read(&rt, &checked)?)
+fn the_shop_is_read(rt: HostRuntime) -> Result<(), SampleFault> {
+    is_read(&rt, &shop(rt.alloc())?)
+}
+
+fn shop(alloc: Global) -> Result<Checked, SampleFault> {
+    let bytes = SHOP.as_bytes().to_vec(alloc)?;
+    read(alloc, bytes).ok().ok_or(SampleFault::Catalog)
 }
 
 fn is_read(rt: &impl Abort, checked: &Checked) -> Result<(), SampleFault> {
@@ -100,8 +102,8 @@ const CHANGES_TO_THE_SHOP: [(&str, &str, &str); 7] = [
 ];
 
 #[test]
-fn changed_shops(rt: HostRuntime) -> Result<(), Fail> {
-    const TABLES: [&[Change]; 13] = [
+fn changed_shops(rt: HostRuntime) -> Result<(), SampleFault> {
+    static TABLES: [&[Change]; 13] = [
         &CHANGES_TO_THE_SHOP,
         &keys::KEYS_AT_THE_TOP,
         &keys::KEYS_OF_A_PRODUCT,
@@ -126,8 +128,8 @@ fn changed_shops(rt: HostRuntime) -> Result<(), Fail> {
 type ChangedTwice = (&'static str, &'static str, &'static [Change]);
 
 #[test]
-fn shops_changed_twice(rt: HostRuntime) -> Result<(), Fail> {
-    const TABLES: [ChangedTwice; 2] = [
+fn shops_changed_twice(rt: HostRuntime) -> Result<(), SampleFault> {
+    static TABLES: [ChangedTwice; 2] = [
         ("[\"USD\"]", "[\"USD\", \"EUR\"]", &values::TWO_CURRENCIES),
         ("[\"USD\"]", "[]", &order::KEYS_COME_BEFORE_RULES),
     ];
@@ -146,8 +148,8 @@ type Pieces = (
 );
 
 #[test]
-fn pieces_of_the_shop(rt: HostRuntime) -> Result<(), Fail> {
-    const TABLES: [Pieces; 6] = [
+fn pieces_of_the_shop(rt: HostRuntime) -> Result<(), SampleFault> {
+    static TABLES: [Pieces; 6] = [
         ("\"2020-01-01\"", "", &values::DATES),
         ("USD=1000", "", &values::KEYS_OF_PRICES),
         (
@@ -185,7 +187,7 @@ fn pieces_are_told(rt: &impl Abort, alloc: Global, pieces: Pieces) -> Result<(),
 }
 
 #[test]
-fn as_long_as_may_be(rt: HostRuntime) -> Result<(), Fail> {
+fn as_long_as_may_be(rt: HostRuntime) -> Result<(), SampleFault> {
     for (length, answer) in [
         (MAX_BYTES, "ok"),
         (MAX_BYTES + 1, "7 60001"),

@@ -7,7 +7,6 @@ use kb_catalog::{Align, Catalog, Category, ChangeAsk, PhaseType, Policy, Valid};
 use kb_days::Period;
 use kb_samples::SampleFault;
 use std::process::Abort;
-use std::test::Fail;
 
 /// The product, category and phase that govern; the product, period and list that are asked for; and what the
 /// rules of a change give.
@@ -39,7 +38,7 @@ const NEVER: Policy = Policy::Illegal;
 
 const START: Align = Align::StartOfSubscription;
 
-const ROWS: [Row; 11] = [
+static ROWS: [Row; 11] = [
     (
         "Big",
         STANDALONE,
@@ -118,9 +117,9 @@ const ROWS: [Row; 11] = [
 ];
 
 #[test]
-fn policies_and_alignments_of_changes(rt: HostRuntime) -> Result<(), Fail> {
+fn policies_and_alignments_of_changes(rt: HostRuntime) -> Result<(), SampleFault> {
     let catalog = two_lists(rt.alloc())?;
-    Ok(changes_are_decided(&rt, &catalog)?)
+    changes_are_decided(&rt, &catalog)
 }
 
 fn changes_are_decided(rt: &impl Abort, catalog: &Catalog) -> Result<(), SampleFault> {

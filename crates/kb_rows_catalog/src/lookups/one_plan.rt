@@ -7,7 +7,6 @@ use kb_catalog::{BillingAlign, Catalog, Category, CreateAlign, PhaseType, Policy
 use kb_days::Period;
 use kb_samples::SampleFault;
 use std::process::Abort;
-use std::test::Fail;
 
 /// A plan's product, category, list and phase; and what the rules of one plan give.
 type Row = (
@@ -40,7 +39,7 @@ const BUNDLE: BillingAlign = BillingAlign::Bundle;
 
 const OWN: BillingAlign = BillingAlign::Subscription;
 
-const ROWS: [Row; 8] = [
+static ROWS: [Row; 8] = [
     ("Pro", BASE, "DEFAULT", None, (LATER, START, ACCOUNT)),
     ("Pro", BASE, "DEFAULT", TRIAL, (NOW, START, ACCOUNT)),
     ("Pro", BASE, "SALE", DISCOUNT, (LATER, START, BUNDLE)),
@@ -59,9 +58,9 @@ const ROWS: [Row; 8] = [
 ];
 
 #[test]
-fn rules_of_one_plan(rt: HostRuntime) -> Result<(), Fail> {
+fn rules_of_one_plan(rt: HostRuntime) -> Result<(), SampleFault> {
     let catalog = two_lists(rt.alloc())?;
-    Ok(plans_are_decided(&rt, &catalog)?)
+    plans_are_decided(&rt, &catalog)
 }
 
 fn plans_are_decided(rt: &impl Abort, catalog: &Catalog) -> Result<(), SampleFault> {

@@ -9,7 +9,6 @@ use kb_catalog::{
 use kb_days::Period;
 use kb_samples::{SHOP, SampleFault, catalog};
 use std::process::Abort;
-use std::test::Fail;
 
 /// The product of an annual plan that governs, and its category; the product and period that are asked for;
 /// the policy of the change; and the cancel policy and the alignment of a start of the one that governs.
@@ -28,7 +27,7 @@ const LATER: Policy = Policy::EndOfTerm;
 
 const START: CreateAlign = CreateAlign::StartOfSubscription;
 
-const ROWS: [Row; 5] = [
+static ROWS: [Row; 5] = [
     (
         "Big",
         Some(Category::Standalone),
@@ -66,9 +65,9 @@ const ROWS: [Row; 5] = [
 ];
 
 #[test]
-fn rules_of_the_shop(rt: HostRuntime) -> Result<(), Fail> {
+fn rules_of_the_shop(rt: HostRuntime) -> Result<(), SampleFault> {
     let catalog = catalog(rt.alloc(), &[SHOP])?;
-    Ok(shop_rules_decide(&rt, &catalog)?)
+    shop_rules_decide(&rt, &catalog)
 }
 
 fn shop_rules_decide(rt: &impl Abort, catalog: &Catalog) -> Result<(), SampleFault> {

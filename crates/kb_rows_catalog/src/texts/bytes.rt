@@ -4,12 +4,11 @@ use crate::told::{is_told, overdue_is_told};
 use kb_samples::SampleFault;
 use std::alloc::{AllocError, Global};
 use std::process::Abort;
-use std::test::Fail;
 
 #[test]
-fn few_bytes(rt: HostRuntime) -> Result<(), Fail> {
+fn few_bytes(rt: HostRuntime) -> Result<(), SampleFault> {
     // the bytes, and the answers as a catalog text and as an overdue text
-    const ROWS: [(&[u8], &str, &str); 12] = [
+    static ROWS: [(&[u8], &str, &str); 12] = [
         (b"", "2 format", "ok"),
         (b"\n", "2 format", "ok"),
         (b"# a note", "2 format", "ok"),
@@ -34,8 +33,8 @@ fn few_bytes(rt: HostRuntime) -> Result<(), Fail> {
 type Repeated = (&'static str, u32, &'static str, &'static str);
 
 #[test]
-fn many_bytes(rt: HostRuntime) -> Result<(), Fail> {
-    const ROWS: [Repeated; 16] = [
+fn many_bytes(rt: HostRuntime) -> Result<(), SampleFault> {
+    static ROWS: [Repeated; 16] = [
         ("[", 60_000, "1", "1"),
         ("[", 60_001, "7 60001", "7 60001"),
         ("]", 60_000, "1", "1"),
@@ -68,9 +67,9 @@ fn repeated_is_told(rt: &impl Abort, alloc: Global, row: &Repeated) -> Result<()
 }
 
 #[test]
-fn deep_values(rt: HostRuntime) -> Result<(), Fail> {
+fn deep_values(rt: HostRuntime) -> Result<(), SampleFault> {
     // what opens and closes a value, how deep, and the answer as an overdue text
-    const ROWS: [(&str, &str, u32, &str); 7] = [
+    static ROWS: [(&str, &str, u32, &str); 7] = [
         ("[", "]", 80, "3 state"),
         ("[", "]", 81, "1"),
         ("{a=", "}", 80, "3 state"),

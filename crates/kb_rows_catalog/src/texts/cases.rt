@@ -4,7 +4,6 @@ use crate::told::{is_told, split};
 use kb_samples::{SHOP, SampleFault};
 use std::alloc::Global;
 use std::process::Abort;
-use std::test::Fail;
 
 /// The shop with another case before those of a rule list.
 fn with_case(alloc: Global, list: &str, case: &str) -> Result<String, SampleFault> {
@@ -85,8 +84,8 @@ type Conditions = (
 );
 
 #[test]
-fn conditions(rt: HostRuntime) -> Result<(), Fail> {
-    const LISTS: [Conditions; 5] = [
+fn conditions(rt: HostRuntime) -> Result<(), SampleFault> {
+    static LISTS: [Conditions; 5] = [
         ("change_policy", "policy='ILLEGAL'", &OF_A_CHANGE),
         (
             "change_alignment",
@@ -108,8 +107,8 @@ fn conditions(rt: HostRuntime) -> Result<(), Fail> {
 }
 
 #[test]
-fn what_a_case_gives(rt: HostRuntime) -> Result<(), Fail> {
-    const ROWS: [(&str, &str, &str); 31] = [
+fn what_a_case_gives(rt: HostRuntime) -> Result<(), SampleFault> {
+    static ROWS: [(&str, &str, &str); 31] = [
         ("change_policy", "", "2 policy"),
         ("change_policy", "policy=5", "3 policy"),
         ("change_policy", "policy='CHANGE_OF_PLAN'", "3 policy"),

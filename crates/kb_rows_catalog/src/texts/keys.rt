@@ -1,8 +1,7 @@
 //! Each key of each table but the cases: missing, of a wrong kind, or beside an unknown one.
 
 use crate::told::{is_told, replaced};
-use kb_samples::SHOP;
-use std::test::Fail;
+use kb_samples::{SHOP, SampleFault};
 
 pub(crate) const KEYS_AT_THE_TOP: [(&str, &str, &str); 28] = [
     ("format = 1\n", "", "2 format"),
@@ -36,8 +35,8 @@ pub(crate) const KEYS_AT_THE_TOP: [(&str, &str, &str); 28] = [
 ];
 
 #[test]
-fn arrays_and_tables_of_the_top_and_the_rules(rt: HostRuntime) -> Result<(), Fail> {
-    const ROWS: [(&str, &str, &str, &str); 30] = [
+fn arrays_and_tables_of_the_top_and_the_rules(rt: HostRuntime) -> Result<(), SampleFault> {
+    static ROWS: [(&str, &str, &str, &str); 30] = [
         ("product = [", "plan = [", "", "2 product"),
         ("product = [", "plan = [", "product = 5\n", "3 product"),
         ("product = [", "plan = [", "product = {}\n", "3 product"),

@@ -1,7 +1,6 @@
 //! Of several faults the first is told: by the order of tables, and of keys within a table.
 
 use crate::told::texts_are_told;
-use std::test::Fail;
 
 /// The first keys of a text, all as they should be.
 const HEAD: &str = "format = 1\neffective = '2020-01-01'\ncurrencies = ['USD']\n";
@@ -131,8 +130,8 @@ type Between = (
 );
 
 #[test]
-fn the_first_fault_is_told(rt: HostRuntime) -> Result<(), Fail> {
-    const TABLES: [Between; 3] = [
+fn the_first_fault_is_told(rt: HostRuntime) -> Result<(), SampleFault> {
+    static TABLES: [Between; 3] = [
         ("", "\n", &BETWEEN_TABLES),
         ("product = [{", "}]\n", &WITHIN_A_PRODUCT),
         (
@@ -147,3 +146,5 @@ fn the_first_fault_is_told(rt: HostRuntime) -> Result<(), Fail> {
     }
     Ok(())
 }
+
+use kb_samples::SampleFault;
