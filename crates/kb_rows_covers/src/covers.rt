@@ -2,6 +2,7 @@
 ghost use Rattle.std.specs.Prelude.{◌≡◌, ◌+◌, ◌<◌, IfOk, length};
 ghost use Rattle.kb_tree.specs.Covers.{IsAbove};
 
+use crate::compare::same;
 use crate::sound_pieces::are_sound;
 use kb_days::{END_OF_DAYS, FIRST_DAY, Reach, parse};
 use kb_due::{Cell, Piece};
@@ -55,7 +56,7 @@ const THIRTY_DAYS: PieceRow = (
 );
 
 /// A name, and what is due in turn.
-const ROWS: [(&str, &[Turn]); 7] = [
+static ROWS: [(&str, &[Turn]); 7] = [
     (
         "a cancellation, and its reversal",
         &[
@@ -327,10 +328,10 @@ fn holds<L: Ledger>(
     for turn in turns {
         let (pieces, wanted) = *turn;
         let (made, added) = made_right(rt, alloc, &cover, pieces, next, steps)?;
-        assert_eq!(rt; wrong_place(&added, wanted)?, None, "{name}");
+        same(rt, &wrong_place(&added, wanted)?, &None, &name);
         cover = made;
         next = with_items(rt, &mut items, &added, next)?;
-        assert_eq!(rt; wrong_day(&cover, &items)?, None, "{name}");
+        same(rt, &wrong_day(&cover, &items)?, &None, &name);
     }
     Ok(())
 }
@@ -357,25 +358,32 @@ fn made_right<L: Ledger>(
 fn pieces_of(alloc: Global, rows: &[PieceRow]) -> Result<Vec<Piece>, Fail> {
     let mut pieces = Vec::new(alloc);
     for row in rows {
-        let (from, to, plan, start, end, price) = *row;
-        let cell = Cell {
-            plan: PlanRef {
-                version: 0,
-                list: 0,
-                plan,
-            },
-            phase: 0,
-            start: reach(start)?,
-            end: reach(end)?,
-            price: Minor::new(price).ok_or("a price")?,
-        };
-        pieces.push(Piece {
-            from: reach(from)?,
-            to: reach(to)?,
-            cell,
-        })?;
+        pieces.push(piece_of(row)?)?;
     }
     Ok(pieces)
+}
+
+fn piece_of(row: &PieceRow) -> Result<Piece, Fail> {
+    Ok(Piece {
+        from: reach(row.0)?,
+        to: reach(row.1)?,
+        cell: cell_of(row)?,
+    })
+}
+
+fn cell_of(row: &PieceRow) -> Result<Cell, Fail> {
+    let (_, _, plan, start, end, price) = *row;
+    Ok(Cell {
+        plan: PlanRef {
+            version: 0,
+            list: 0,
+            plan,
+        },
+        phase: 0,
+        start: reach(start)?,
+        end: reach(end)?,
+        price: Minor::new(price).ok_or("a price")?,
+    })
 }
 
 /// The day of a date.
