@@ -1,9 +1,9 @@
 //! Pauses and blocks: what is repaired, and billed again.
 
 use crate::play::{NO_STATES, Row, play_all};
-use std::test::Fail;
+use kb_samples::SampleFault;
 
-const ROWS: [Row; 3] = [
+static ROWS: [Row; 3] = [
     (
         "a pause of five days",
         NO_STATES,
@@ -52,6 +52,6 @@ const ROWS: [Row; 3] = [
 ];
 
 #[test]
-fn pauses_and_blocks(rt: HostRuntime) -> Result<(), Fail> {
+fn pauses_and_blocks(rt: HostRuntime) -> Result<(), SampleFault> {
     play_all(&rt, rt.alloc(), &ROWS)
 }

@@ -1,12 +1,11 @@
 //! A month of a shop: automatic payments, and what an account that doesn't pay may do.
 
 use crate::play::{Row, play_all};
-use kb_samples::OVERDUE;
-use std::test::Fail;
+use kb_samples::{OVERDUE, SampleFault};
 
 /// After each command what is due by itself is asked for until nothing is; a payment is settled as the gateway
 /// tells.
-const ROWS: [Row; 1] = [(
+static ROWS: [Row; 1] = [(
     "a month",
     OVERDUE,
     "open USD 1 autopay #open",
@@ -51,6 +50,6 @@ const ROWS: [Row; 1] = [(
 )];
 
 #[test]
-fn a_month(rt: HostRuntime) -> Result<(), Fail> {
+fn a_month(rt: HostRuntime) -> Result<(), SampleFault> {
     play_all(&rt, rt.alloc(), &ROWS)
 }

@@ -1,10 +1,9 @@
 //! Payments, credit, and what is given back.
 
 use crate::play::{Row, play_all};
-use kb_samples::OVERDUE;
-use std::test::Fail;
+use kb_samples::{OVERDUE, SampleFault};
 
-const ROWS: [Row; 2] = [
+static ROWS: [Row; 2] = [
     (
         "a cancellation in the past, paid; a refund, and what the bank takes back",
         OVERDUE,
@@ -37,6 +36,6 @@ const ROWS: [Row; 2] = [
 ];
 
 #[test]
-fn payments(rt: HostRuntime) -> Result<(), Fail> {
+fn payments(rt: HostRuntime) -> Result<(), SampleFault> {
     play_all(&rt, rt.alloc(), &ROWS)
 }

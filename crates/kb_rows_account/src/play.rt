@@ -1,5 +1,6 @@
 //! Rows, played on a book.
 
+use crate::compare::same;
 use crate::script::{bytes_of, today_of};
 use kb_account::{Book, Prepared, World};
 use kb_book::{Answer, Refusal, Unprepared};
@@ -7,10 +8,9 @@ use kb_catalog_text::read_overdue;
 use kb_codec::{Command, decode};
 use kb_days::Day;
 use kb_overdue::Config;
-use kb_samples::{SHOP, catalog, day};
+use kb_samples::{SHOP, SampleFault, catalog, day};
 use std::alloc::Global;
 use std::process::Abort;
-use std::test::Fail;
 
 /// Overdue rules without a state.
 pub(crate) const NO_STATES: &str = "state = []";
@@ -23,7 +23,7 @@ pub(crate) type Line = (&'static str, &'static str);
 pub(crate) type Row = (&'static str, &'static str, &'static str, &'static [Line]);
 
 /// Holds what is told of each line against the row's.
-pub(crate) fn play_all(rt: &impl Abort, alloc: Global, rows: &[Row]) -> Result<(), Fail> {
+pub(crate) fn play_all(rt: &impl Abort, alloc: Global, rows: &[Row]) -> Result<(), SampleFault> {
     for row in rows {
         play_row(rt, alloc, row)?;
     }
@@ -31,26 +31,24 @@ pub(crate) fn play_all(rt: &impl Abort, alloc: Global, rows: &[Row]) -> Result<(
 }
 
 // What owns much is let go in one place of a function each: every place is proved.
-fn play_row(rt: &impl Abort, alloc: Global, row: &Row) -> Result<(), Fail> {
+fn play_row(rt: &impl Abort, alloc: Global, row: &Row) -> Result<(), SampleFault> {
     let world = world_of(alloc, row.1)?;
     play(rt, alloc, &world, row)
 }
 
-fn world_of(alloc: Global, overdue: &str) -> Result<World, Fail> {
+fn world_of(alloc: Global, overdue: &str) -> Result<World, SampleFault> {
     Ok(World {
         overdue: overdue_of(alloc, overdue)?,
         catalog: catalog(alloc, &[SHOP])?,
     })
 }
 
-fn overdue_of(alloc: Global, text: &str) -> Result<Config, Fail> {
-    match read_overdue(alloc, text.as_bytes().to_vec(alloc)?) {
-        Ok(checked) => Ok(checked.into_parts().1),
-        Err(_) => Err("an overdue text".into()),
-    }
+fn overdue_of(alloc: Global, text: &str) -> Result<Config, SampleFault> {
+    let checked = read_overdue(alloc, text.as_bytes().to_vec(alloc)?).ok();
+    Ok(checked.ok_or(SampleFault::Word)?.into_parts().1)
 }
 
-fn play(rt: &impl Abort, alloc: Global, world: &World, row: &Row) -> Result<(), Fail> {
+fn play(rt: &impl Abort, alloc: Global, world: &World, row: &Row) -> Result<(), SampleFault> {
     let mut book = opened(alloc, row.2)?;
     play_on(rt, alloc, world, &mut book, row)
 }
@@ -61,27 +59,34 @@ fn play_on(
     world: &World,
     book: &mut Book,
     row: &Row,
-) -> Result<(), Fail> {
+) -> Result<(), SampleFault> {
     let (name, _, _, lines) = *row;
     let mut today = day("2024-01-01")?;
     for (number, (line, answer)) in lines.iter().enumerate() {
         today = today_of(line).unwrap_or(today);
         let told = after(alloc, world, book, today, line, number)?;
-        assert_eq!(rt; told.as_str(), *answer, "{name}: {line}");
+        same(rt, &told.as_str(), answer, &(name, line));
     }
     Ok(())
 }
 
 /// The book that a line opens.
-fn opened(alloc: Global, line: &str) -> Result<Book, Fail> {
-    let command = decode(alloc, &bytes_of(alloc, line, 0)?)?.ok_or("a command")?;
-    first_of(alloc, &command)
+fn opened(alloc: Global, line: &str) -> Result<Book, SampleFault> {
+    let bytes = bytes_of(alloc, line, 0)?;
+    first_of(alloc, &decode(alloc, &bytes)?)
 }
 
-fn first_of(alloc: Global, command: &Command) -> Result<Book, Fail> {
+fn first_of(alloc: Global, command: &Option<Command>) -> Result<Book, SampleFault> {
+    match command {
+        Some(command) => first_book(alloc, command),
+        None => Err(SampleFault::Word),
+    }
+}
+
+fn first_book(alloc: Global, command: &Command) -> Result<Book, SampleFault> {
     match command {
         Command::OpenAccount(_) => Ok(Book::first(alloc, command)?.0),
-        _ => Err("an opening".into()),
+        _ => Err(SampleFault::Word),
     }
 }
 
@@ -93,10 +98,8 @@ fn after(
     today: Day,
     line: &str,
     number: usize,
-) -> Result<String, Fail> {
-    let Some(command) = command_of(alloc, world, book, today, line, number)? else {
-        return Ok(String::from_str(alloc, "nothing")?);
-    };
+) -> Result<String, SampleFault> {
+    let command = command_of(alloc, world, book, today, line, number)?;
     answered(alloc, world, book, today, &command)
 }
 
@@ -105,11 +108,28 @@ fn answered(
     world: &World,
     book: &mut Book,
     today: Day,
-    command: &Command,
-) -> Result<String, Fail> {
+    command: &Option<Command>,
+) -> Result<String, SampleFault> {
+    match command {
+        None => Ok(String::from_str(alloc, "nothing")?),
+        Some(command) => done_told(alloc, done(alloc, world, book, today, command)),
+    }
+}
+
+/// What comes of a command, behind a word if it was done before.
+type Done = Result<(&'static str, Answer), Unprepared>;
+
+fn done(alloc: Global, world: &World, book: &mut Book, today: Day, command: &Command) -> Done {
     match book.prepare(alloc, world, today, command) {
-        Ok(Prepared::Next(next)) => answer_told(alloc, "", book.commit(next)),
-        Ok(Prepared::Kept(answer)) => answer_told(alloc, "kept ", answer),
+        Ok(Prepared::Next(next)) => Ok(("", book.commit(next))),
+        Ok(Prepared::Kept(answer)) => Ok(("kept ", answer)),
+        Err(fault) => Err(fault),
+    }
+}
+
+fn done_told(alloc: Global, done: Done) -> Result<String, SampleFault> {
+    match done {
+        Ok((before, answer)) => answer_told(alloc, before, answer),
         Err(fault) => refusal_told(alloc, fault),
     }
 }
@@ -127,7 +147,7 @@ fn command_of(
     today: Day,
     line: &str,
     number: usize,
-) -> Result<Option<Command>, Fail> {
+) -> Result<Option<Command>, SampleFault> {
     if line == "due" {
         Ok(due(world, book, today))
     } else {
@@ -135,7 +155,7 @@ fn command_of(
     }
 }
 
-fn answer_told(alloc: Global, before: &str, answer: Answer) -> Result<String, Fail> {
+fn answer_told(alloc: Global, before: &str, answer: Answer) -> Result<String, SampleFault> {
     let Answer {
         command,
         invoice,
@@ -151,17 +171,18 @@ fn answer_told(alloc: Global, before: &str, answer: Answer) -> Result<String, Fa
     }
 }
 
-fn refusal_told(alloc: Global, fault: Unprepared) -> Result<String, Fail> {
+fn refusal_told(alloc: Global, fault: Unprepared) -> Result<String, SampleFault> {
     match fault {
-        Unprepared::NoMemory => Err("memory".into()),
+        Unprepared::NoMemory => Err(SampleFault::NoMemory),
         Unprepared::Refused(Refusal::Limit { which, limit }) => {
             Ok(format!(in alloc; "refused Limit {which} {limit}")?)
         }
-        Unprepared::Refused(refusal) => {
-            let name = name_of(refusal);
-            Ok(format!(in alloc; "refused {name}")?)
-        }
+        Unprepared::Refused(refusal) => name_told(alloc, name_of(refusal)),
     }
+}
+
+fn name_told(alloc: Global, name: &str) -> Result<String, SampleFault> {
+    Ok(format!(in alloc; "refused {name}")?)
 }
 
 /// The name of a refusal, of those that rows tell.

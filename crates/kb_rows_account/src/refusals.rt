@@ -1,10 +1,9 @@
 //! Refusals.
 
 use crate::play::{Row, play_all};
-use kb_samples::OVERDUE;
-use std::test::Fail;
+use kb_samples::{OVERDUE, SampleFault};
 
-const ROWS: [Row; 7] = [
+static ROWS: [Row; 7] = [
     (
         "a Basic since the first",
         OVERDUE,
@@ -91,6 +90,6 @@ const ROWS: [Row; 7] = [
 ];
 
 #[test]
-fn refusals(rt: HostRuntime) -> Result<(), Fail> {
+fn refusals(rt: HostRuntime) -> Result<(), SampleFault> {
     play_all(&rt, rt.alloc(), &ROWS)
 }

@@ -4,9 +4,8 @@
 //! them may stand `@` with the day on which it is sent, and `#` with its key.
 
 use kb_days::Day;
-use kb_samples::day;
+use kb_samples::{SampleFault, day};
 use std::alloc::Global;
-use std::test::Fail;
 
 /// How a line tells a member of a command.
 enum Member {
@@ -27,7 +26,7 @@ enum Member {
 /// The word of a command, and the byte of its kind with its members behind account and key.
 type Kind = (&'static str, (u8, &'static [Member]));
 
-const KINDS: [Kind; 15] = [
+static KINDS: [Kind; 15] = [
     ("open", (3, &[Member::Currency, Member::Bcd, Member::Word])),
     (
         "create",
@@ -83,7 +82,7 @@ const KINDS: [Kind; 15] = [
 ];
 
 /// Words of members, and their bytes. What is left out is a byte 0.
-const WORDS: [(&str, u8); 12] = [
+static WORDS: [(&str, u8); 12] = [
     ("", 0),
     ("autopay", 1),
     ("billing", 4),
@@ -105,28 +104,27 @@ pub(crate) fn today_of(line: &str) -> Option<Day> {
 }
 
 /// The bytes of the command of a line. If it names no key, its key is told by its number.
-pub(crate) fn bytes_of(alloc: Global, line: &str, number: usize) -> Result<Vec<u8>, Fail> {
+pub(crate) fn bytes_of(alloc: Global, line: &str, number: usize) -> Result<Vec<u8>, SampleFault> {
     let (line, key) = line.split_once(" #").unwrap_or((line, ""));
     let (line, _) = line.split_once(" @").unwrap_or((line, ""));
-    let mut words = line.split(' ');
-    let (kind, members) = kind_of(words.next().unwrap_or(""))?;
+    let (word, words) = line.split_once(' ').unwrap_or((line, ""));
+    let (kind, members) = look_up(&KINDS, word).ok_or(SampleFault::Word)?;
     let mut bytes = vec![in alloc; kind]?;
     put_name(&mut bytes, "a1")?;
     if kind < 18 {
         put_key(alloc, &mut bytes, key, number)?;
     }
-    for member in members {
-        put(&mut bytes, member, words.next().unwrap_or(""))?;
-    }
+    put_members(&mut bytes, members, words)?;
     Ok(bytes)
 }
 
-fn kind_of(word: &str) -> Result<(u8, &'static [Member]), Fail> {
-    Ok(look_up(&KINDS, word).ok_or("a command")?)
-}
-
 /// The key of a command; if it has none, that of its number.
-fn put_key(alloc: Global, bytes: &mut Vec<u8>, key: &str, number: usize) -> Result<(), Fail> {
+fn put_key(
+    alloc: Global,
+    bytes: &mut Vec<u8>,
+    key: &str,
+    number: usize,
+) -> Result<(), SampleFault> {
     if key.is_empty() {
         put_name(bytes, format!(in alloc; "k{number}")?.as_str())
     } else {
@@ -134,36 +132,63 @@ fn put_key(alloc: Global, bytes: &mut Vec<u8>, key: &str, number: usize) -> Resu
     }
 }
 
-fn put(bytes: &mut Vec<u8>, member: &Member, word: &str) -> Result<(), Fail> {
-    match member {
-        Member::Name => put_name(bytes, word)?,
-        Member::Currency => bytes.extend_from_slice(word.as_bytes())?,
-        Member::Bcd => bytes.push(word.parse::<u8>()?)?,
-        Member::Invoice => bytes.extend_from_slice(&word.parse::<u32>()?.to_be_bytes())?,
-        Member::Amount => bytes.extend_from_slice(&word.parse::<u64>()?.to_be_bytes())?,
-        Member::Period => {
-            bytes.push(byte_of(word)?)?;
-            put_name(bytes, "DEFAULT")?;
-        }
-        Member::Word => bytes.push(byte_of(word)?)?,
-        Member::Day if word.is_empty() => bytes.push(0)?,
-        Member::Day => {
-            bytes.push(1)?;
-            bytes.extend_from_slice(&day(word)?.number().to_be_bytes())?;
-        }
+fn put_members(bytes: &mut Vec<u8>, members: &[Member], words: &str) -> Result<(), SampleFault> {
+    let mut words = words.split(' ');
+    for member in members {
+        put(bytes, member, words.next().unwrap_or(""))?;
     }
     Ok(())
 }
 
-fn put_name(bytes: &mut Vec<u8>, name: &str) -> Result<(), Fail> {
-    let length = u8::try_from(name.len()).ok().ok_or("a short name")?;
-    bytes.push(length)?;
-    bytes.extend_from_slice(name.as_bytes())?;
-    Ok(())
+fn put(bytes: &mut Vec<u8>, member: &Member, word: &str) -> Result<(), SampleFault> {
+    match member {
+        Member::Name => put_name(bytes, word),
+        Member::Currency => put_all(bytes, word.as_bytes()),
+        Member::Bcd => put_number(bytes, word, 1),
+        Member::Invoice => put_number(bytes, word, 4),
+        Member::Amount => put_number(bytes, word, 8),
+        Member::Period => put_period(bytes, word),
+        Member::Word => put_word(bytes, word),
+        Member::Day => put_day(bytes, word),
+    }
 }
 
-fn byte_of(word: &str) -> Result<u8, Fail> {
-    Ok(look_up(&WORDS, word).ok_or("a word")?)
+fn put_all(bytes: &mut Vec<u8>, more: &[u8]) -> Result<(), SampleFault> {
+    Ok(bytes.extend_from_slice(more)?)
+}
+
+fn put_name(bytes: &mut Vec<u8>, name: &str) -> Result<(), SampleFault> {
+    let length = u8::try_from(name.len()).ok().ok_or(SampleFault::Word)?;
+    bytes.push(length)?;
+    put_all(bytes, name.as_bytes())
+}
+
+/// Adds a number in so many bytes, up to 8.
+fn put_number(bytes: &mut Vec<u8>, word: &str, size: usize) -> Result<(), SampleFault> {
+    let number = word.parse::<u64>().ok().ok_or(SampleFault::Word)?;
+    let all = number.to_be_bytes();
+    put_all(
+        bytes,
+        all.get(8_usize.saturating_sub(size)..).unwrap_or(&[]),
+    )
+}
+
+fn put_period(bytes: &mut Vec<u8>, word: &str) -> Result<(), SampleFault> {
+    put_word(bytes, word)?;
+    put_name(bytes, "DEFAULT")
+}
+
+fn put_word(bytes: &mut Vec<u8>, word: &str) -> Result<(), SampleFault> {
+    let byte = look_up(&WORDS, word).ok_or(SampleFault::Word)?;
+    put_all(bytes, &[byte])
+}
+
+fn put_day(bytes: &mut Vec<u8>, word: &str) -> Result<(), SampleFault> {
+    if word.is_empty() {
+        return put_all(bytes, &[0]);
+    }
+    put_all(bytes, &[1])?;
+    put_all(bytes, &day(word)?.number().to_be_bytes())
 }
 
 /// What stands behind a word.

@@ -1,10 +1,9 @@
 //! Subscriptions: what starts, changes and cancellations are charged.
 
 use crate::play::{NO_STATES, Row, play_all};
-use kb_samples::OVERDUE;
-use std::test::Fail;
+use kb_samples::{OVERDUE, SampleFault};
 
-const ROWS: [Row; 10] = [
+static ROWS: [Row; 10] = [
     (
         "a standalone product, from the tenth on",
         OVERDUE,
@@ -108,6 +107,6 @@ const ROWS: [Row; 10] = [
 ];
 
 #[test]
-fn subscriptions(rt: HostRuntime) -> Result<(), Fail> {
+fn subscriptions(rt: HostRuntime) -> Result<(), SampleFault> {
     play_all(&rt, rt.alloc(), &ROWS)
 }
