@@ -174,6 +174,13 @@ impl<D: Disk> Journal<D> {
         self.lanes
     }
 
+    /// Whether an append has failed, so that no other one begins.
+    pub fn is_stopped(&self) -> bool
+        ensures { result ≡ self.now.stopped }
+    {
+        self.stopped
+    }
+
     /// The disk as it is.
     pub fn into_disk(self) -> D
         ensures { result ≡ self.disk }

@@ -14,7 +14,8 @@ mod read;
 mod records;
 mod write;
 
-use block::{MAX_BLOCK, MAX_RECORD, fill_block, header_block};
+pub use block::MAX_RECORD;
+use block::{MAX_BLOCK, fill_block, header_block};
 use contents::read_contents;
 pub use fault::{AppendFault, CreateFault, LoadFault};
 use header::read_header;

@@ -23,9 +23,9 @@ IsTorn images log entry = (image : List ℕ) → images log.journal.disk image
     → IsWithOrWithout log.journal.lanes log.journal.lane (payloads log.history) (payload entry) image
 
 -- What always holds of a log. Its journal has as many records as the history has commands, and the disk's count
--- doesn't fall. As long as no append
--- has failed, an honest disk keeps their payloads, and no command is marked. Once one has failed, its command is
--- marked, no other one is ever, and the disk's count has risen since the log was opened.
+-- doesn't fall. As long as no append has failed, an honest disk keeps their payloads, and no command is marked.
+-- Once one has failed, its command is marked, no other one is ever, and the disk's count has risen since the log
+-- was opened.
 pub record IsLog {D : Type 0} (honest : D → Bool) (seen : D → List ℕ) (images : D → List ℕ → Type 0)
     (fault_count : D → ℕ) (log : LogValue D) : Type 0 where
   pub counted : log.journal.count ≡ length log.history

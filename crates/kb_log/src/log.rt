@@ -122,11 +122,11 @@ impl<D: Disk> Log<D> {
         self.journal.into_disk()
     }
 
-    /// How many calls of the disk have failed.
-    pub fn faults(&self) -> u128
-        ensures { result ≡ D.fault_count self.now.journal.disk }
+    /// Whether an append has failed, so that no other one begins.
+    pub fn is_stopped(&self) -> bool
+        ensures { result ≡ self.now.journal.stopped }
     {
-        self.journal.faults()
+        self.journal.is_stopped()
     }
 
     /// Writes a command down, with the day on which it came. An `Err` leaves the history as it was; after

@@ -11,10 +11,8 @@ ghost use Rattle.kb_log.specs.Private.Parts.{both_of};
 use kb_base::NoMemory;
 use kb_codec::{Command, decode, encode};
 use kb_days::Day;
+use kb_journal::MAX_RECORD;
 use std::alloc::Global;
-
-/// The most bytes of a record.
-const MAX_BYTES: usize = 65_536;
 
 /// A command with the day on which it came, as it is written down: in 5 to 65,536 bytes. A longer one finds no
 /// memory; no command has one, since a text has at most 60,000 bytes.
@@ -26,7 +24,7 @@ pub fn payload_of(alloc: Global, today: Day, command: &Command) -> Result<Vec<u8
     let mut bytes = Vec::with_capacity(alloc, spelling.len() + 4)?;
     bytes.extend_from_slice(&day_bytes(today))?;
     bytes.extend_from_slice(&spelling)?;
-    if MAX_BYTES < bytes.len() {
+    if MAX_RECORD < bytes.len() {
         return Err(NoMemory);
     }
     Ok(bytes)

@@ -1,5 +1,5 @@
 //! The books of accounts, by name.
-ghost use Rattle.std.specs.Prelude.{◌≡◌, ◌<◌, ◌^◌, [], length, option_copied, IsSome, OnOk, OnErr, None};
+ghost use Rattle.std.specs.Prelude.{◌≡◌, ◌<◌, ◌^◌, [], length, option_copied, IsSome, IfOk, OnOk, OnErr, None, map};
 ghost use Rattle.std.specs.FinMap.{find, put};
 ghost use Rattle.kb_sharing.specs.Keys.{by_words};
 ghost use Rattle.kb_book.specs.Books.{BookValue, Keyed};
@@ -66,12 +66,22 @@ impl Books {
     }
 
     /// Takes out the book that was added for a new account.
-
     pub fn remove(&mut self, account: &Name)
         ensures { (before : Keyed BookValue) (book : BookValue) → find by_words account.now before ≡ None
             → self.old ≡ put by_words account.now book before → self.new ≡ before }
     {
         let _book = self.by_name.remove(account);
+    }
+
+    /// The names of the accounts, in their order.
+    pub fn names(&self, alloc: Global) -> Result<Vec<Name>, NoMemory>
+        ensures { IfOk result (λ names. names.items ≡ map (λ entry. entry.0) self.now) }
+    {
+        let mut names = Vec::with_capacity(alloc, self.len())?;
+        for name in self.by_name.keys() {
+            names.push(*name)?;
+        }
+        Ok(names)
     }
 
     /// Takes what the book of an account prepared, and gives its answer. It takes no memory.

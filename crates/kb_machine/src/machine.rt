@@ -188,7 +188,7 @@ impl Machine {
         if self.books.len() >= MAX_ACCOUNTS {
             return Err(Unprepared::Refused(Refusal::Limit {
                 which: 1,
-                limit: 100_000,
+                limit: MAX_ACCOUNTS as u32,
             }));
         }
         let (book, answer) = Book::first(alloc, command)?;
