@@ -1,0 +1,9 @@
+mod FoundEntries
+mod JudgedCases
+mod AcceptedBooks
+pub mod KeyedBooks
+pub mod StayingAttempts
+pub mod SettledAttempts
+pub mod BegunAttempts
+pub mod NamedBooks
+pub mod DueNews
