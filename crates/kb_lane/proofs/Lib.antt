@@ -1,4 +1,7 @@
+mod Choices
 mod Grows
 mod Places
 mod SaidReplies
+mod Settling
 mod Stuck
+mod Written

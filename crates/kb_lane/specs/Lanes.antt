@@ -1,5 +1,8 @@
 -- A lane: its log, what it is yet to do, and what it asked of its gateway.
-use Rattle.std.specs.Prelude.{ℕ, ◌≡◌, ◌≤◌, Bool, List}
+use Rattle.std.specs.Prelude.{ℕ, ◌≡◌, ◌≤◌, Bool, false, IsTrue, List}
+use Rattle.kb_disk.specs.Moments.{AtEachMoment}
+use Rattle.kb_journal.specs.Format.{IsWithOrWithout}
+use Rattle.kb_log.specs.Entries.{Entry, payload, payloads}
 use Rattle.kb_log.specs.Logs.{LogValue}
 use Rattle.kb_machine.specs.Machines.{MachineValue, no_machine}
 use Rattle.kb_machine.specs.Histories.{AreNewFrom, replay}
@@ -20,8 +23,8 @@ pub record IsLane {D G : Type 0} (machine : MachineValue) (lane : LaneValue D G)
   pub replayed : machine ≡ machine_of lane
   pub fresh : AreNewFrom no_machine lane.log.history
 
--- What no call changes: which lane of how many it is, what it was opened with, and how honest its disk is. The
--- disk's count doesn't fall.
+-- What no call changes: which lane of how many it is, what it was opened with, and how honest its disk is.
+-- The disk's count doesn't fall.
 pub record StaysItself {D G : Type 0} (honest : D → Bool) (fault_count : D → ℕ) (old new : LaneValue D G)
     : Type 0 where
   pub lanes : new.log.journal.lanes ≡ old.log.journal.lanes
@@ -30,3 +33,12 @@ pub record StaysItself {D G : Type 0} (honest : D → Bool) (fault_count : D →
   pub faults : new.log.faults ≡ old.log.faults
   pub as_honest : honest new.log.journal.disk ≡ honest old.log.journal.disk
   pub rising : fault_count old.log.journal.disk ≤ fault_count new.log.journal.disk
+
+-- At each moment from one state of a log to a later one, each image of an honest disk stands for the history,
+-- with or without a command more, if no append had failed before.
+abbrev pub StandsThroughout : {D : Type 0} → (D → Bool) → (D → ℕ) → (D → ℕ → List ℕ → Type 0) → LogValue D
+    → LogValue D → Entry → Type 0
+StandsThroughout honest moment left_since old new entry = old.journal.stopped ≡ false
+    → IsTrue (honest old.journal.disk)
+    → AtEachMoment moment left_since old.journal.disk new.journal.disk
+    (IsWithOrWithout old.journal.lanes old.journal.lane (payloads old.history) (payload entry))

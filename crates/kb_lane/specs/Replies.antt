@@ -35,8 +35,8 @@ is_accepted replies.NoMemory = false
 abbrev pub is_taken : Judged LaneReply MachineValue → LaneReply → Bool
 is_taken told reply = is_new told && is_accepted reply
 
--- A command is taken: the history has it at its end, what it leaves to do stands at the end of the outbox, and
--- the lane goes on.
+-- A command is taken: the history has it at its end, what it leaves to do stands at the end of the outbox,
+-- and the lane goes on.
 pub record Takes {D G : Type 0} (old new : LaneValue D G) (entry : Entry) : Type 0 where
   pub history : new.log.history ≡ old.log.history ++ entry ∷ []
   pub outbox : new.outbox ≡ old.outbox ++ work_of entry
@@ -44,7 +44,8 @@ pub record Takes {D G : Type 0} (old new : LaneValue D G) (entry : Entry) : Type
   pub running : new.log.journal.stopped ≡ false
 
 -- The disk failed while a command was written down: the command is marked, and the lane has stopped.
-pub record IsMarked {D G : Type 0} (fault_count : D → ℕ) (old new : LaneValue D G) (entry : Entry) : Type 0 where
+pub record IsMarked {D G : Type 0} (fault_count : D → ℕ) (old new : LaneValue D G) (entry : Entry)
+    : Type 0 where
   pub history : new.log.history ≡ old.log.history
   pub outbox : new.outbox ≡ old.outbox
   pub marked : new.log.failed ≡ entry ∷ []

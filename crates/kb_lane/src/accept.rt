@@ -1,17 +1,17 @@
 //! Commands that a lane performs.
-ghost use Rattle.std.specs.Prelude.{◌≡◌, ◌≤◌, ◌+◌, ◌++◌, ◌∷◌, [], ℕ, true, false, length, IsTrue, IfOk, IfErr, OnOk, OnErr, None};
+ghost use Rattle.std.specs.Prelude.{◌≡◌, ◌≤◌, ◌+◌, ◌++◌, ◌∷◌, [], ℕ, true, false, length};
+ghost use Rattle.std.specs.Prelude.{IsTrue, IfOk, IfErr, OnOk, OnErr, None};
 ghost use Rattle.std.specs.Option.{option_to_list};
 ghost use Rattle.std.specs.VecDeque.{deque_items, deque_len, deque_capacity};
-ghost use Rattle.kb_disk.specs.Moments.{AtEachMoment};
-ghost use Rattle.kb_journal.specs.Format.{IsWithOrWithout};
 ghost use Rattle.kb_log.specs.Entries.{payload, payloads};
 ghost use Rattle.kb_log.specs.Logs.{MayAppend};
 ghost use Rattle.kb_journal.specs.Keeping.{IsFull};
+ghost use Rattle.kb_book.specs.declared.refusal.Refusal.{Refusal};
 ghost use Rattle.kb_reply.specs.declared.reply.LaneReply.TheVariants as replies;
 ghost use Rattle.kb_machine.specs.Judged.{New, is_new};
 ghost use Rattle.kb_machine.specs.Machines.{judged, reply_of, with_book, book_of, is_callers};
 ghost use Rattle.kb_machine.specs.Plans.{changed, change_reply, plan_judged, IsThere, Fits};
-ghost use Rattle.kb_lane.specs.Lanes.{StaysItself, machine_of};
+ghost use Rattle.kb_lane.specs.Lanes.{StandsThroughout, StaysItself, machine_of};
 ghost use Rattle.kb_lane.specs.Works.{work_of};
 ghost use Rattle.kb_lane.specs.Replies.{IsReply, is_accepted, is_taken, Takes, IsMarked};
 ghost use Rattle.kb_lane.specs.Private.Unwritten.{IsUnwritten, HasWritten, unwritten_reply};
@@ -52,17 +52,17 @@ impl<D: Disk, G: Gateway + Drop> Lane<D, G> {
             ≡ New (change_reply change) (changed (machine_of self.old) change) }
         requires there { IsThere (machine_of self.old) change }
         ensures reply { IfOk result (λ reply. reply ≡ change_reply change) }
-        ensures history { OnOk result (self.new.log.history ≡ self.old.log.history ++ (today, command.now) ∷ []) }
+        ensures history { OnOk result (self.new.log.history
+            ≡ self.old.log.history ++ (today, command.now) ∷ []) }
         ensures outbox { OnOk result (self.new.outbox ≡ self.old.outbox ++ work_of (today, command.now)) }
         ensures failed { OnOk result (self.new.log.failed ≡ self.old.log.failed) }
         ensures running { OnOk result (self.new.log.journal.stopped ≡ false) }
         ensures may { OnOk result (MayAppend self.old.log (length (payload (today, command.now)))) }
         ensures unwritten { IfErr result (IsUnwritten D.fault_count self.old self.new (today, command.now)
             (length (payload (today, command.now)))) }
-        ensures moments { HasWritten result → self.old.log.journal.stopped ≡ false
-            → IsTrue (D.honest self.old.log.journal.disk) → AtEachMoment D.moment D.left_since self.old.log.journal.disk self.new.log.journal.disk
-            (IsWithOrWithout self.old.log.journal.lanes self.old.log.journal.lane (payloads self.old.log.history)
-            (payload (today, command.now))) }
+        ensures moments { HasWritten result
+            → StandsThroughout D.honest D.moment D.left_since self.old.log self.new.log
+            (today, command.now) }
         ensures gateway { self.new.gateway ≡ self.old.gateway }
         ensures itself { StaysItself D.honest D.fault_count self.old self.new }
     {
@@ -95,21 +95,22 @@ impl<D: Disk, G: Gateway + Drop> Lane<D, G> {
         command: &Command,
         opened: Opened,
     ) -> Result<LaneReply, Unwritten>
-        requires planned { judged (machine_of self.old) today command.now ≡ New (replies.Accepted opened.answer)
+        requires planned { judged (machine_of self.old) today command.now
+            ≡ New (replies.Accepted opened.answer)
             (with_book (machine_of self.old) opened.account opened.book) }
         requires absent { book_of (machine_of self.old) opened.account ≡ None }
         ensures reply { IfOk result (λ reply. reply ≡ replies.Accepted opened.answer) }
-        ensures history { OnOk result (self.new.log.history ≡ self.old.log.history ++ (today, command.now) ∷ []) }
+        ensures history { OnOk result (self.new.log.history
+            ≡ self.old.log.history ++ (today, command.now) ∷ []) }
         ensures outbox { OnOk result (self.new.outbox ≡ self.old.outbox ++ work_of (today, command.now)) }
         ensures failed { OnOk result (self.new.log.failed ≡ self.old.log.failed) }
         ensures running { OnOk result (self.new.log.journal.stopped ≡ false) }
         ensures may { OnOk result (MayAppend self.old.log (length (payload (today, command.now)))) }
         ensures unwritten { IfErr result (IsUnwritten D.fault_count self.old self.new (today, command.now)
             (length (payload (today, command.now)))) }
-        ensures moments { HasWritten result → self.old.log.journal.stopped ≡ false
-            → IsTrue (D.honest self.old.log.journal.disk) → AtEachMoment D.moment D.left_since self.old.log.journal.disk self.new.log.journal.disk
-            (IsWithOrWithout self.old.log.journal.lanes self.old.log.journal.lane (payloads self.old.log.history)
-            (payload (today, command.now))) }
+        ensures moments { HasWritten result
+            → StandsThroughout D.honest D.moment D.left_since self.old.log self.new.log
+            (today, command.now) }
         ensures gateway { self.new.gateway ≡ self.old.gateway }
         ensures itself { StaysItself D.honest D.fault_count self.old self.new }
     {
@@ -152,9 +153,11 @@ impl<D: Disk, G: Gateway + Drop> Lane<D, G> {
         command: &Command,
         planned: Planned,
     ) -> Result<LaneReply, Unwritten>
-        requires planned { judged (machine_of self.old) today command.now ≡ plan_judged (machine_of self.old) planned }
+        requires planned { judged (machine_of self.old) today command.now
+            ≡ plan_judged (machine_of self.old) planned }
         requires fits { Fits (machine_of self.old) planned }
-        ensures reply { IfOk result (λ reply. reply_of (judged (machine_of self.old) today command.now) ≡ reply) }
+        ensures reply { IfOk result (λ reply. reply_of (judged (machine_of self.old) today command.now)
+            ≡ reply) }
         ensures accepted { IfOk result (λ reply. is_accepted reply ≡ true) }
         ensures may { OnOk result (is_new (judged (machine_of self.old) today command.now) ≡ true
             → MayAppend self.old.log (length (payload (today, command.now)))) }
@@ -166,10 +169,7 @@ impl<D: Disk, G: Gateway + Drop> Lane<D, G> {
             (length (payload (today, command.now)))) }
         ensures new { OnErr result (is_new (judged (machine_of self.old) today command.now) ≡ true) }
         ensures moments { is_new (judged (machine_of self.old) today command.now) ≡ true → HasWritten result
-            → self.old.log.journal.stopped ≡ false
-            → IsTrue (D.honest self.old.log.journal.disk) → AtEachMoment D.moment D.left_since self.old.log.journal.disk self.new.log.journal.disk
-            (IsWithOrWithout self.old.log.journal.lanes self.old.log.journal.lane (payloads self.old.log.history)
-            (payload (today, command.now))) }
+            → StandsThroughout D.honest D.moment D.left_since self.old.log self.new.log (today, command.now) }
         ensures gateway { self.new.gateway ≡ self.old.gateway }
         ensures itself { StaysItself D.honest D.fault_count self.old self.new }
     {
@@ -180,10 +180,45 @@ impl<D: Disk, G: Gateway + Drop> Lane<D, G> {
         }
     }
 
-    /// Performs a command that comes on a day, and gives its reply. All memory is taken before the disk is
-    /// written to. Only a reply that tells that a new command is accepted comes of a change; after `DiskFault`
-    /// the lane has stopped.
+    /// Performs a command of a caller, or one of the lane's own.
     #[tactic(auto, using(crate::proofs::SaidReplies::accepted_reply, crate::proofs::SaidReplies::accepted_fault, crate::proofs::SaidReplies::accepted_stopped, crate::proofs::SaidReplies::accepted_full))]
+    pub(crate) fn accept(&mut self, alloc: Global, today: Day, command: &Command) -> LaneReply
+        ensures unrefused { is_new (judged (machine_of self.old) today command.now) ≡ true
+            → (refusal : Refusal) → result ≡ replies.Refused refusal → ⊥ }
+        ensures reply { IsReply (judged (machine_of self.old) today command.now) result }
+        ensures taken { is_taken (judged (machine_of self.old) today command.now) result ≡ true
+            → Takes self.old self.new (today, command.now) }
+        ensures untaken { is_taken (judged (machine_of self.old) today command.now) result ≡ false
+            → (result ≡ replies.DiskFault → ⊥) → self.new ≡ self.old }
+        ensures fault { result ≡ replies.DiskFault
+            → IsMarked D.fault_count self.old self.new (today, command.now) }
+        ensures stopped { (count : ℕ) → result ≡ replies.Stopped count
+            → (self.old.log.journal.stopped ≡ true) × (count ≡ length self.old.log.history) }
+        ensures full { (commands size : ℕ) → result ≡ replies.Full commands size
+            → (self.old.log.journal.stopped ≡ false)
+            × IsFull self.old.log.journal (length (payload (today, command.now)))
+            × (commands ≡ length self.old.log.history) × (size ≡ self.old.log.journal.gate + 1) }
+        ensures may { is_taken (judged (machine_of self.old) today command.now) result ≡ true
+            → MayAppend self.old.log (length (payload (today, command.now))) }
+        ensures moments { is_new (judged (machine_of self.old) today command.now) ≡ true
+            → (result ≡ replies.NoMemory → ⊥)
+            → StandsThroughout D.honest D.moment D.left_since self.old.log self.new.log (today, command.now) }
+        ensures gateway { self.new.gateway ≡ self.old.gateway }
+        ensures itself { StaysItself D.honest D.fault_count self.old self.new }
+    {
+        match self.machine.prepare(alloc, today, command) {
+            Ok(planned) => match self.perform_planned(alloc, today, command, planned) {
+                Ok(reply) => reply,
+                Err(unwritten) => reply_of_unwritten(unwritten),
+            },
+            Err(Unprepared::Refused(refusal)) => LaneReply::Refused(refusal),
+            Err(Unprepared::NoMemory) => LaneReply::NoMemory,
+        }
+    }
+
+    /// Performs a command that comes on a day, and gives its reply. All memory is taken before the disk is
+    /// written to. Only a reply that tells that a new command is accepted comes of a change; after
+    /// `DiskFault` the lane has stopped.
     pub fn perform(&mut self, alloc: Global, today: Day, command: &Command) -> LaneReply
         requires callers { is_callers command.now ≡ true }
         ensures reply { IsReply (judged (machine_of self.old) today command.now) result }
@@ -202,21 +237,12 @@ impl<D: Disk, G: Gateway + Drop> Lane<D, G> {
         ensures may { is_taken (judged (machine_of self.old) today command.now) result ≡ true
             → MayAppend self.old.log (length (payload (today, command.now))) }
         ensures moments { is_new (judged (machine_of self.old) today command.now) ≡ true
-            → (result ≡ replies.NoMemory → ⊥) → self.old.log.journal.stopped ≡ false
-            → IsTrue (D.honest self.old.log.journal.disk) → AtEachMoment D.moment D.left_since self.old.log.journal.disk self.new.log.journal.disk
-            (IsWithOrWithout self.old.log.journal.lanes self.old.log.journal.lane (payloads self.old.log.history)
-            (payload (today, command.now))) }
+            → (result ≡ replies.NoMemory → ⊥)
+            → StandsThroughout D.honest D.moment D.left_since self.old.log self.new.log (today, command.now) }
         ensures gateway { self.new.gateway ≡ self.old.gateway }
         ensures itself { StaysItself D.honest D.fault_count self.old self.new }
     {
-        match self.machine.prepare(alloc, today, command) {
-            Ok(planned) => match self.perform_planned(alloc, today, command, planned) {
-                Ok(reply) => reply,
-                Err(unwritten) => reply_of_unwritten(unwritten),
-            },
-            Err(Unprepared::Refused(refusal)) => LaneReply::Refused(refusal),
-            Err(Unprepared::NoMemory) => LaneReply::NoMemory,
-        }
+        self.accept(alloc, today, command)
     }
 }
 

@@ -47,8 +47,8 @@ impl<D: Disk, G: Gateway + Drop> Model for Lane<D, G> {
 }
 
 impl<D: Disk, G: Gateway + Drop> Lane<D, G> {
-    /// A lane without an account, of this number among so many, on a disk without bytes. A fault gives the disk
-    /// and the gateway back.
+    /// A lane without an account, of this number among so many, on a disk without bytes. A fault gives the
+    /// disk and the gateway back.
     #[tactic(auto, using(kb_machine::proofs::Replays::replay_none, kb_machine::proofs::Replays::fresh_none))]
     pub fn create(
         alloc: Global,
@@ -63,7 +63,8 @@ impl<D: Disk, G: Gateway + Drop> Lane<D, G> {
         ensures empty { IfOk result (λ made. made.log.history ≡ []) }
         ensures opened { IfOk result (λ made. made.log.opened ≡ 0) }
         ensures running { IfOk result (λ made. made.log.journal.stopped ≡ false) }
-        ensures place { IfOk result (λ made. (made.log.journal.lanes ≡ lanes) × (made.log.journal.lane ≡ lane)) }
+        ensures place { IfOk result (λ made. (made.log.journal.lanes ≡ lanes)
+            × (made.log.journal.lane ≡ lane)) }
         ensures honesty { IfOk result (λ made. D.honest made.log.journal.disk ≡ D.honest disk) }
         ensures calm { IfOk result (λ made. D.fault_count made.log.journal.disk ≡ D.fault_count disk) }
         ensures faults { IfOk result (λ made. made.log.faults ≡ D.fault_count disk) }
@@ -99,8 +100,8 @@ impl<D: Disk, G: Gateway + Drop> Lane<D, G> {
         self.log.lanes()
     }
 
-    /// How many commands are acknowledged. As long as no append has failed, each image of an honest disk stands
-    /// for them.
+    /// How many commands are acknowledged. As long as no append has failed, each image of an honest disk
+    /// stands for them.
     pub fn count(&self) -> u64
         ensures count { result ≡ length self.now.log.history }
         ensures held { self.now.log.journal.stopped ≡ false → IsTrue (D.honest self.now.log.journal.disk)

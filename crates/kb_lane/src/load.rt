@@ -16,16 +16,17 @@ use std::alloc::Global;
 use std::collections::VecDeque;
 
 impl<D: Disk, G: Gateway + Drop> Lane<D, G> {
-    /// The lane of this number on a disk: its history is the list of commands that the bytes stand for, and its
-    /// outbox is empty. The disk is synced first, and nothing is written. A fault gives the disk and the gateway
-    /// back.
+    /// The lane of this number on a disk: its history is the list of commands that the bytes stand for, and
+    /// its outbox is empty. The disk is synced first, and nothing is written. A fault gives the disk and the
+    /// gateway back.
     pub fn load(
         alloc: Global,
         disk: D,
         gateway: G,
         lane: u16,
     ) -> Result<Lane<D, G>, (LoadFault, D, G)>
-        ensures history { IsTrue (D.honest disk) → IfOk result (λ loaded. StandsFor loaded.log.journal.lanes lane
+        ensures history { IsTrue (D.honest disk)
+            → IfOk result (λ loaded. StandsFor loaded.log.journal.lanes lane
             (payloads loaded.log.history) (D.seen disk)) }
         ensures opened { IfOk result (λ loaded. loaded.log.opened ≡ length loaded.log.history) }
         ensures running { IfOk result (λ loaded. loaded.log.journal.stopped ≡ false) }
@@ -61,7 +62,8 @@ impl<D: Disk, G: Gateway + Drop> Lane<D, G> {
         requires running { journal.stopped ≡ false }
         requires counted { journal.count ≡ length past }
         requires count { count ≡ length past }
-        requires held { IsTrue (D.honest journal.disk) → Holds D.honest D.seen D.images journal (payloads past) }
+        requires held { IsTrue (D.honest journal.disk)
+            → Holds D.honest D.seen D.images journal (payloads past) }
         ensures { result ≡ record {
           log = record {
             journal = journal;

@@ -86,7 +86,8 @@ impl Replayed {
         command: &Command,
     ) -> Result<bool, NoMemory>
         requires payload { payload (today, command.now) ≡ bytes.now }
-        requires only { (other : Entry) → IsEntry other → payload other ≡ bytes.now → other ≡ (today, command.now) }
+        requires only { (other : Entry) → IsEntry other → payload other ≡ bytes.now
+            → other ≡ (today, command.now) }
         ensures { IfOk result (λ added. Adds self.old bytes.now added self.new) }
     {
         let Some(next) = self.place.checked_add(bytes.len() as u64 + 5) else {

@@ -11,9 +11,10 @@ use Rattle.kb_lane.specs.Lanes.{LaneValue}
 use Rattle.kb_lane.specs.declared.accept.Unwritten.{Unwritten}
 use Rattle.kb_lane.specs.declared.accept.Unwritten.TheVariants.{NoMemory, Append}
 
--- Memory ran out, an append had failed before, or there is no room: the lane is as it was. Or the disk failed: the
--- command is marked, and all else is as it was.
-abbrev pub IsUnwritten : {D G : Type 0} → (D → ℕ) → LaneValue D G → LaneValue D G → Entry → ℕ → Unwritten → Type 0
+-- Memory ran out, an append had failed before, or there is no room: the lane is as it was. Or the disk
+-- failed: the command is marked, and all else is as it was.
+abbrev pub IsUnwritten : {D G : Type 0} → (D → ℕ) → LaneValue D G → LaneValue D G → Entry → ℕ → Unwritten
+    → Type 0
 IsUnwritten fault_count old new entry size NoMemory = new ≡ old
 IsUnwritten fault_count old new entry size (Append (Stopped count)) = (old.log.journal.stopped ≡ true)
     × (count ≡ length old.log.history) × (new ≡ old)

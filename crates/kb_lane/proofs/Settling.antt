@@ -1,0 +1,104 @@
+-- What is known of the settlement that was chosen, and what a step leaves of a lane whose gateway was asked.
+use Rattle.std.proofs.Common.{ℕ, ◌≡◌, List, [], ◌∷◌, Option, None, Some, Result, Ok, Err, false, true≢false, refl, sym, ap, subst, ◌∙◌}
+use Rattle.kb_base.specs.declared.fault.Failed.{Failed}
+use Rattle.kb_gateway.specs.declared.order.Asked.{Asked}
+use Rattle.kb_gateway.specs.declared.told.Saying.{Saying}
+use Rattle.kb_gateway.specs.declared.told.Told.{Told}
+use Rattle.kb_gateway.specs.declared.told.Told.TheVariants as told
+use Rattle.kb_codec.specs.declared.command.Command.{Command}
+use Rattle.kb_codec.specs.declared.command.Command.TheVariants as kinds
+use Rattle.kb_payment.specs.declared.attempt.Status.TheVariants as status
+use Rattle.kb_reply.specs.declared.step.Step.{Step}
+use Rattle.kb_reply.specs.declared.step.Step.TheVariants as steps
+use Rattle.kb_log.specs.Entries.{Entry}
+use Rattle.kb_machine.specs.Machines.{MachineValue}
+use Rattle.kb_lane.specs.declared.settlement.Settlement.{Settlement}
+use Rattle.kb_lane.specs.declared.work.Work.{Work}
+use Rattle.kb_lane.specs.declared.work.Work.TheVariants.{Check}
+use Rattle.kb_lane.specs.Lanes.{LaneValue}
+use Rattle.kb_lane.specs.Works.{work_of}
+use Rattle.kb_lane.specs.Draining.{settled_by, with_outbox, Writes, Settles, Asks, Orders}
+use Rattle.kb_lane.specs.Private.Settlements.{IsChosen, IsReadyOf, IsBusy}
+
+-- a settlement that was chosen is the one that there is
+pub chosen_command : (machine : MachineValue) (today : ℕ) (command : Option Command) (ready : Settlement)
+    → IsChosen machine today command (Some ready) → command ≡ Some ready.command
+chosen_command machine today None ready chosen = absurd chosen
+chosen_command machine today (Some command) ready chosen = ap (λ it. Some it) (sym chosen.is_it)
+
+pub chosen_ready : (machine : MachineValue) (today : ℕ) (command : Option Command) (ready : Settlement)
+    → IsChosen machine today command (Some ready) → IsReadyOf machine today ready.command ready
+chosen_ready machine today None ready chosen = absurd chosen
+chosen_ready machine today (Some command) ready chosen =
+    let P : Command → Type 0 = λ it. IsReadyOf machine today it ready in subst P (sym chosen.is_it) chosen
+
+pub unchosen_command : (machine : MachineValue) (today : ℕ) (command : Option Command)
+    → IsChosen machine today command None → command ≡ None
+unchosen_command machine today None chosen = refl
+unchosen_command machine today (Some command) chosen = absurd chosen
+
+-- what a settlement leaves to do is to look at its account
+pub settled_check : (today : ℕ) (account key : List ℕ) (answer : Result Told Failed) (command : Command)
+    → settled_by account key answer ≡ Some command → work_of (today, command) ≡ Check account ∷ []
+settled_check today account key (Ok told.Processed) command is =
+    let same : kinds.Settle (record { account = account; payment = key; status = status.Success }) ≡ command = cc in
+    rw (← same) refl
+settled_check today account key (Ok told.Pending) command is =
+    let same : kinds.Settle (record { account = account; payment = key; status = status.Pending }) ≡ command = cc in
+    rw (← same) refl
+settled_check today account key (Ok told.Error) command is =
+    let same : kinds.Settle (record { account = account; payment = key; status = status.PaymentFailure })
+    ≡ command = cc in
+    rw (← same) refl
+settled_check today account key (Ok told.Canceled) command is =
+    let same : kinds.Settle (record { account = account; payment = key; status = status.PluginFailure })
+    ≡ command = cc in
+    rw (← same) refl
+settled_check today account key (Ok told.Undefined) command is = absurd (cc)
+settled_check today account key (Err failed) command is = absurd (cc)
+
+-- of the lane before, log and outbox alone count
+pub writes_from : {D G : Type 0} (fault_count : D → ℕ) (old other new : LaneValue D G) (entry : Entry) (step : Step)
+    → other.log ≡ old.log → other.outbox ≡ old.outbox → Writes fault_count old new entry step
+    → Writes fault_count other new entry step
+writes_from fault_count old other new entry steps.Idle log outbox writes = elim writes [ ]
+writes_from fault_count old other new entry steps.Done log outbox writes = record {
+  history = rw log writes.history;
+  outbox = rw outbox writes.outbox;
+  failed = rw log writes.failed;
+  running = writes.running;
+}
+writes_from fault_count old other new entry steps.DiskFault log outbox writes = record {
+  history = rw log writes.history;
+  outbox = rw outbox writes.outbox;
+  marked = writes.marked;
+  ran = rw log writes.ran;
+  stopped = writes.stopped;
+  cause = rw log writes.cause;
+}
+writes_from fault_count old other new entry (steps.Stopped count) log outbox writes =
+    (rw log writes.0, rw log writes.1, (rw log writes.2.0, rw outbox writes.2.1))
+writes_from fault_count old other new entry (steps.Full commands size) log outbox writes =
+    (rw log writes.0, rw log writes.1, rw log writes.2, rw log writes.3, (rw log writes.4.0, rw outbox writes.4.1))
+writes_from fault_count old other new entry steps.NoMemory log outbox writes =
+    (rw log writes.0, rw outbox writes.1)
+
+module _ {D G : Type 0} (fault_count : D → ℕ) (asked : G → Option (List Asked)) (said : G → Option (List Saying))
+    (faults : G → ℕ) (old new : LaneValue D G) (today : ℕ) (account key : List ℕ) (later : List Work) where
+  -- a lane that runs doesn't tell that it has stopped
+  not-stopped : (command : Option Command) (count : ℕ) → old.log.journal.stopped ≡ false
+      → Settles fault_count (with_outbox old later) new today command (steps.Stopped count) → ⊥
+  not-stopped None count running settles = absurd (let no = settles.0 in cc)
+  not-stopped (Some command) count running settles = true≢false (sym settles.0.0 ∙ running)
+
+  -- what an answer leaves is what the handling of its order leaves
+  pub asks_orders : (step : Step) → IsBusy step
+      → Asks fault_count asked said faults old new today account key later step
+      → Orders fault_count asked said faults old new today account key later step
+  asks_orders steps.Idle busy asks = absurd busy
+  asks_orders steps.Done busy asks = asks
+  asks_orders steps.DiskFault busy asks = asks
+  asks_orders (steps.Stopped count) busy asks =
+      absurd (not-stopped (settled_by account key asks.answer) count asks.running asks.settled)
+  asks_orders (steps.Full commands size) busy asks = asks
+  asks_orders steps.NoMemory busy asks = absurd busy

@@ -1,0 +1,7 @@
+use Rattle.kb_lane.proofs.Settling.{asks_orders}
+use Rattle.kb_lane.proofs.lane.Lane.order.Goals as goal
+
+pub returns-in-Ok-clause-orders : goal.returns-in-Ok-clause-orders
+returns-in-Ok-clause-orders g c = λ later front. asks_orders g.D.Disk.fault_count g.G.Gateway.asked g.G.Gateway.said
+    g.G.Gateway.faults c.args.self.now _ c.args.today c.args.account c.args.key later c.ask.result c.ask.ensures.busy
+    (c.ask.ensures.asked later front)

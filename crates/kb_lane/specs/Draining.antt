@@ -1,0 +1,150 @@
+-- How a lane handles the entry at the front of its outbox.
+use Rattle.std.specs.Prelude.{ℕ, ◌≡◌, ◌+◌, ◌⊎◌, true, false, List, [], ◌∷◌, ◌++◌, length, Option, None, Some}
+use Rattle.std.specs.Prelude.{Result, Ok, Err, codes, refl}
+use Rattle.kb_base.specs.declared.fault.Failed.{Failed}
+use Rattle.kb_base.specs.Faults.{HasCause}
+use Rattle.kb_payment.specs.declared.attempt.Attempt.{Attempt}
+use Rattle.kb_payment.specs.declared.attempt.Status.{Status}
+use Rattle.kb_payment.specs.declared.attempt.Status.TheVariants as status
+use Rattle.kb_payment.specs.PaymentSums.{attempt_of}
+use Rattle.kb_gateway.specs.declared.order.Asked.{Asked}
+use Rattle.kb_gateway.specs.declared.order.Order.{Order}
+use Rattle.kb_gateway.specs.declared.told.Told.{Told}
+use Rattle.kb_gateway.specs.declared.told.Told.TheVariants as told
+use Rattle.kb_gateway.specs.declared.told.Saying.{Saying}
+use Rattle.kb_gateway.specs.Answers.{Notes, asked_of, said_of_ask, status_of}
+use Rattle.kb_gateway.specs.GatewayIds.{uuid_of, payment_text}
+use Rattle.kb_codec.specs.declared.command.Command.{Command}
+use Rattle.kb_codec.specs.declared.command.Command.TheVariants as kinds
+use Rattle.kb_journal.specs.Keeping.{IsFull}
+use Rattle.kb_book.specs.Books.{BookValue}
+use Rattle.kb_laws.specs.NextDues.{next_due}
+use Rattle.kb_reply.specs.declared.step.Step.{Step}
+use Rattle.kb_reply.specs.declared.step.Step.TheVariants as steps
+use Rattle.kb_log.specs.Entries.{Entry, payload}
+use Rattle.kb_log.specs.Logs.{LogValue}
+use Rattle.kb_machine.specs.Machines.{MachineValue, book_of}
+use Rattle.kb_lane.specs.declared.work.Work.{Work}
+use Rattle.kb_lane.specs.Lanes.{LaneValue, machine_of}
+use Rattle.kb_lane.specs.Replies.{Takes, IsMarked}
+
+-- what an account asks for by itself, if it is there
+abbrev pub due_in : MachineValue → ℕ → Option BookValue → Option Command
+due_in machine today None = None
+due_in machine today (Some book) = next_due machine.texts.world book today
+
+abbrev pub due_of : MachineValue → ℕ → List ℕ → Option Command
+due_of machine today account = due_in machine today (book_of machine account)
+
+-- the order for an attempt of an account, if both are there
+abbrev pub order_for : List ℕ → List ℕ → BookValue → Option Attempt → Option Order
+order_for account key book None = None
+order_for account key book (Some attempt) = Some (record {
+  account = account;
+  key = key;
+  id = uuid_of (payment_text account key);
+  kind = attempt.kind;
+  amount = attempt.amount;
+  currency = book.currency;
+})
+
+abbrev pub order_in : List ℕ → List ℕ → Option BookValue → Option Order
+order_in account key None = None
+order_in account key (Some book) = order_for account key book (attempt_of book.payments key)
+
+abbrev pub order_of : MachineValue → List ℕ → List ℕ → Option Order
+order_of machine account key = order_in account key (book_of machine account)
+
+-- the settlement of an attempt to a status, unless that is unknown
+abbrev pub settlement : List ℕ → List ℕ → Status → Option Command
+settlement account key status.Unknown = None
+settlement account key status =
+    Some (kinds.Settle (record { account = account; payment = key; status = status }))
+
+-- the settlement of an attempt by what its gateway answered: none if it failed or can't say
+abbrev pub settled_by : List ℕ → List ℕ → Result Told Failed → Option Command
+settled_by account key (Ok answer) = settlement account key (status_of answer)
+settled_by account key (Err failed) = None
+
+a_payment_that_went_through : settled_by (codes "a1") (codes "p1") (Ok told.Processed)
+    ≡ Some (kinds.Settle (record { account = codes "a1"; payment = codes "p1"; status = status.Success }))
+a_payment_that_went_through = refl
+
+one_that_is_not_known : settled_by (codes "a1") (codes "p1") (Ok told.Undefined) ≡ None
+one_that_is_not_known = refl
+
+-- the lane with these works
+abbrev pub with_outbox : {D G : Type 0} → LaneValue D G → List Work → LaneValue D G
+with_outbox lane works = record lane { outbox = works }
+
+-- log and outbox are as they were
+abbrev pub IsLeft : {D G : Type 0} → LaneValue D G → LaneValue D G → Type 0
+IsLeft old new = (new.log ≡ old.log) × (new.outbox ≡ old.outbox)
+
+-- What a step leaves that accepts a command: it is taken; or the disk failed, and it is marked; or the lane
+-- had stopped, or there is no room, or memory ran out, and log and outbox are as they were.
+abbrev pub Writes : {D G : Type 0} → (D → ℕ) → LaneValue D G → LaneValue D G → Entry → Step → Type 0
+Writes fault_count old new entry steps.Idle = ⊥
+Writes fault_count old new entry steps.Done = Takes old new entry
+Writes fault_count old new entry steps.DiskFault = IsMarked fault_count old new entry
+Writes fault_count old new entry (steps.Stopped count) = (old.log.journal.stopped ≡ true)
+    × (count ≡ length old.log.history) × IsLeft old new
+Writes fault_count old new entry (steps.Full commands size) = (old.log.journal.stopped ≡ false)
+    × IsFull old.log.journal (length (payload entry)) × (commands ≡ length old.log.history)
+    × (size ≡ old.log.journal.gate + 1) × IsLeft old new
+Writes fault_count old new entry steps.NoMemory = IsLeft old new
+
+-- An entry stays at the front until its step is done.
+abbrev pub works_after : Step → Work → List Work → List Work
+works_after steps.Done front later = later
+works_after step front later = front ∷ later
+
+-- What a look at an account leaves: it accepts the command that is due, if one is.
+abbrev pub Looks : {D G : Type 0} → (D → ℕ) → LaneValue D G → LaneValue D G → ℕ → Work → List Work
+    → Option Command → Step → Type 0
+Looks fault_count old new today front later None step = (step ≡ steps.Done) × (new ≡ with_outbox old later)
+Looks fault_count old new today front later (Some command) step =
+    Writes fault_count (with_outbox old (works_after step front later)) new (today, command) step
+    × (new.gateway ≡ old.gateway)
+
+-- The gateway was asked for an order, and answered or failed.
+pub record IsAsked {G : Type 0} (asked : G → Option (List Asked)) (said : G → Option (List Saying))
+    (faults : G → ℕ) (old new : G) (order : Order) (answer : Result Told Failed) : Type 0 where
+  pub noted : Notes (asked old) (asked_of order) (asked new)
+  pub heard : Notes (said old) (said_of_ask order answer) (said new)
+  pub cause : HasCause (faults old) (faults new) answer
+
+-- What an answer leaves, the entry being off the outbox: it accepts the settlement by that answer, if there
+-- is one. No memory is missing any more.
+abbrev pub Settles : {D G : Type 0} → (D → ℕ) → LaneValue D G → LaneValue D G → ℕ → Option Command → Step
+    → Type 0
+Settles fault_count old new today None step = (step ≡ steps.Done) × IsLeft old new
+Settles fault_count old new today (Some command) step =
+    Writes fault_count old new (today, command) step × (step ≡ steps.NoMemory → ⊥)
+
+-- The lane runs; its gateway was asked for the order of a payment, and by what it answered the payment is
+-- settled.
+pub record Asks {D G : Type 0} (fault_count : D → ℕ) (asked : G → Option (List Asked))
+    (said : G → Option (List Saying)) (faults : G → ℕ) (old new : LaneValue D G) (today : ℕ)
+    (account key : List ℕ) (later : List Work) (step : Step) : Type 0 where
+  pub running : old.log.journal.stopped ≡ false
+  pub order : Order
+  pub ordered : order_of (machine_of old) account key ≡ Some order
+  pub answer : Result Told Failed
+  pub heard : IsAsked asked said faults old.gateway new.gateway order answer
+  pub settled : Settles fault_count (with_outbox old later) new today (settled_by account key answer) step
+
+-- What the handling of an order leaves: a lane that has stopped asks nothing, and nor does one that finds no
+-- memory.
+abbrev pub Orders : {D G : Type 0} → (D → ℕ) → (G → Option (List Asked)) → (G → Option (List Saying))
+    → (G → ℕ) → LaneValue D G → LaneValue D G → ℕ → List ℕ → List ℕ → List Work → Step → Type 0
+Orders fault_count asked said faults old new today account key later (steps.Stopped count) =
+    (old.log.journal.stopped ≡ true) × (count ≡ length old.log.history) × (new ≡ old)
+Orders fault_count asked said faults old new today account key later steps.NoMemory = new ≡ old
+Orders fault_count asked said faults old new today account key later step =
+    Asks fault_count asked said faults old new today account key later step
+
+-- a command was written down, or is marked as the one with which the lane stopped
+abbrev pub IsWritten : {D : Type 0} → LogValue D → LogValue D → Entry → Type 0
+IsWritten old new entry = (new.history ≡ old.history ++ entry ∷ [])
+    ⊎ ((old.journal.stopped ≡ false) × (new.journal.stopped ≡ true) × (new.failed ≡ entry ∷ []))
