@@ -3,9 +3,9 @@
 use kb_codec::{Command, decode};
 use kb_days::Day;
 use kb_disk::MemoryDisk;
-use kb_gateway::ListGateway;
+use kb_gateway::{ListGateway, Told};
 use kb_journal::{Journal, LoadFault};
-use kb_lane::{Lane, LaneReply};
+use kb_lane::{Lane, LaneReply, Step};
 use kb_samples::day;
 use std::alloc::Global;
 use std::test::Fail;
@@ -17,6 +17,35 @@ pub(crate) type TestLane = Lane<MemoryDisk, ListGateway>;
 pub(crate) fn empty(alloc: Global, failing: &[u64]) -> Result<TestLane, Fail> {
     let disk = MemoryDisk::new(alloc, Vec::new(alloc), failing.to_vec(alloc)?)?;
     made(alloc, disk, silent(alloc))
+}
+
+/// An empty lane whose gateway answers orders so, and whose calls of these numbers fail.
+pub(crate) fn with_gateway(
+    alloc: Global,
+    told: &[Told],
+    failing: &[u64],
+) -> Result<TestLane, Fail> {
+    let disk = MemoryDisk::new(alloc, Vec::new(alloc), Vec::new(alloc))?;
+    let told = told.to_vec(alloc)?;
+    let gateway = ListGateway::new(alloc, told, Vec::new(alloc), failing.to_vec(alloc)?);
+    made(alloc, disk, gateway)
+}
+
+/// Handles entries of the outbox until a step isn't done: how many were, and that step.
+pub(crate) fn drained(lane: &mut TestLane, alloc: Global, today: Day) -> (u32, Step) {
+    for count in 0..100 {
+        match lane.handle_next(alloc, today) {
+            Step::Done => {}
+            step => return (count, step),
+        }
+    }
+    (100, Step::Done)
+}
+
+/// How often the gateway was asked.
+pub(crate) fn asked_in(lane: TestLane) -> Option<usize> {
+    let (_, gateway) = lane.into_parts();
+    gateway.asked().map(|asked| asked.len())
 }
 
 /// A gateway that has nothing to say.

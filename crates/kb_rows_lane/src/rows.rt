@@ -61,7 +61,7 @@ fn hold(
     Ok(())
 }
 
-fn hold_lines(
+pub(crate) fn hold_lines(
     rt: &impl Abort,
     alloc: Global,
     lane: &mut TestLane,
