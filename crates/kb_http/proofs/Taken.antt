@@ -1,6 +1,6 @@
 -- A request that is taken off the front of what was read.
 use Rattle.std.proofs.Common.{◌≡◌, ℕ, ◌<◌, ◌+◌, ◌||◌, List, ◌++◌, length, take, drop, min, sym, ap, ◌∙◌, subst, inr}
-use Rattle.std.proofs.Common.{append_assoc, take-append-drop, arith, length-take, length-drop, Option, None, Some, Ok, Err}
+use Rattle.std.proofs.Common.{append_assoc, take-append-drop, arith, length-take, length-drop, Option, None, Some, Ok}
 use Rattle.std.specs.Prelude.{nat_le}
 use lib.Seq.{drop-append-le}
 use Rattle.std.proofs.Math.Seq.{take-add}
@@ -11,7 +11,7 @@ use Rattle.httparse.proofs.GrammarLemmas.{ReadsRequest-append}
 use Rattle.kb_http.specs.declared.head.Head.{Head}
 use Rattle.kb_http.specs.declared.request.HttpRequest.{HttpRequest}
 use Rattle.kb_http.specs.Heads.{max_requests}
-use Rattle.kb_http.specs.Requests.{BeginsWith, IsRequest, IsRefused, IsCutShort}
+use Rattle.kb_http.specs.Requests.{BeginsWith, IsRequest, IsCutShort}
 use Rattle.kb_http.specs.Private.Reading.{HasHead, HasWhole}
 
 -- a head at the front of bytes that grow
@@ -40,11 +40,6 @@ begins bytes found (head, whole, short) = record {
   short = omega (arith, whole.len, short);
   few = whole.few;
 }
-
-pub refuses_head : (bytes : List ℕ) (found : Head) (status : ℕ) → HasHead bytes found → found.body ≡ Err status
-    → IsRefused status bytes
-refuses_head bytes found status has refused =
-    inr (inr (has.0, drop found.len bytes, begins bytes found has, sym has.1.asks.body ∙ refused))
 
 pub lacks_body : (bytes more all : List ℕ) (found : Head) (count : ℕ) → all ≡ bytes ++ more → HasHead bytes found
     → found.body ≡ Ok count → length all < found.len + count → IsCutShort all
