@@ -1,6 +1,7 @@
 //! What lanes do by themselves: payments that are asked for, and how they are settled.
 
-use crate::lanes::{asked_in, count_of, drained, with_gateway};
+use crate::compare::same;
+use crate::lanes::{TestLane, asked_in, count_of, drained, with_gateway};
 use crate::rows::hold_lines;
 use kb_gateway::Told;
 use kb_lane::Step;
@@ -21,7 +22,7 @@ const PAID: &str = "\
 /// there are then, and the reply to another payment.
 type Drain = (&'static [Told], &'static [u64], u32, u64, &'static str);
 
-const DRAINS: [Drain; 5] = [
+static DRAINS: [Drain; 5] = [
     (
         &[Told::Processed],
         &[],
@@ -69,16 +70,31 @@ fn payments_that_are_asked_for(rt: HostRuntime) -> Result<(), Fail> {
 
 /// Holds a row. The gateway is asked once, whatever it answers.
 fn hold_drain(rt: &impl Abort, alloc: Global, row: &Drain) -> Result<(), Fail> {
-    let (told, failing, handled, count, next) = *row;
+    let (told, failing, ..) = *row;
     let mut lane = with_gateway(alloc, told, failing)?;
-    hold_lines(rt, alloc, &mut lane, PAID)?;
-    let steps = drained(&mut lane, alloc, day("2024-03-01")?);
-    let commands = count_of(&lane);
-    hold_lines(rt, alloc, &mut lane, next)?;
-    assert_eq!(rt;
-        (steps, commands, asked_in(lane)),
-        ((handled, Step::Idle), count, Some(1)),
-        "{next}"
+    hold_drained(rt, alloc, &mut lane, row)?;
+    hold_asked(rt, lane, row)
+}
+
+fn hold_drained(
+    rt: &impl Abort,
+    alloc: Global,
+    lane: &mut TestLane,
+    row: &Drain,
+) -> Result<(), Fail> {
+    let (_, _, handled, count, next) = *row;
+    hold_lines(rt, alloc, lane, PAID)?;
+    let steps = drained(lane, alloc, day("2024-03-01")?);
+    same(
+        rt,
+        &(steps, count_of(lane)),
+        &((handled, Step::Idle), count),
+        &next,
     );
+    hold_lines(rt, alloc, lane, next)
+}
+
+fn hold_asked(rt: &impl Abort, lane: TestLane, row: &Drain) -> Result<(), Fail> {
+    same(rt, &asked_in(lane), &Some(1), &row.4);
     Ok(())
 }

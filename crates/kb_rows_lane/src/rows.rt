@@ -3,9 +3,12 @@
 //! A line has the bytes of a command and its reply behind ` > `: `#12` is a byte, `=USD` three letters, and any
 //! other word a name.
 
+use crate::compare::same;
 use crate::lanes::{TestLane, again, count_of, empty, journal, performed, put, stuck_at, told};
 use kb_catalog_text::{read, read_overdue};
 use kb_codec::{Catalog, Command, OverdueRules};
+use kb_disk::MemoryDisk;
+use kb_journal::Journal;
 use kb_samples::{OVERDUE, SHOP, day, name};
 use std::alloc::Global;
 use std::process::Abort;
@@ -47,7 +50,7 @@ const STOPS: &str = "\
 #3 a1 k1 =USD #1 #0 > ok 1
 #11 a2 k3 #0 > refused 0";
 
-/// Holds the replies to the commands of a table, and how many are acknowledged at the end.
+/// Holds the replies to the commands of a table on a new lane, and how many are acknowledged at the end.
 fn hold(
     rt: &impl Abort,
     alloc: Global,
@@ -56,25 +59,45 @@ fn hold(
     count: u64,
 ) -> Result<(), Fail> {
     let mut lane = empty(alloc, failing)?;
-    hold_lines(rt, alloc, &mut lane, table)?;
-    assert_eq!(rt; count_of(&lane), count);
+    hold_all(rt, alloc, &mut lane, table, count)
+}
+
+fn hold_all(
+    rt: &impl Abort,
+    alloc: Global,
+    lane: &mut TestLane,
+    table: &str,
+    count: u64,
+) -> Result<(), Fail> {
+    hold_lines(rt, alloc, lane, table)?;
+    same(rt, &count_of(lane), &count, &table);
     Ok(())
 }
 
+/// Holds the replies to the commands of a table.
 pub(crate) fn hold_lines(
     rt: &impl Abort,
     alloc: Global,
     lane: &mut TestLane,
     table: &str,
 ) -> Result<(), Fail> {
-    let today = day("2024-03-01")?;
     for line in table.split('\n') {
-        let (command, reply) = line.split_once(" > ").unwrap_or((line, ""));
-        let bytes = bytes_of(alloc, command)?;
-        let said = told(lane, alloc, today, &bytes)?;
-        assert_eq!(rt; said.as_str(), reply, "{command}");
+        hold_line(rt, alloc, lane, line)?;
     }
     Ok(())
+}
+
+fn hold_line(rt: &impl Abort, alloc: Global, lane: &mut TestLane, line: &str) -> Result<(), Fail> {
+    let (command, reply) = line.split_once(" > ").unwrap_or((line, ""));
+    let said = said_on(alloc, lane, command)?;
+    same(rt, &said.as_str(), &reply, &command);
+    Ok(())
+}
+
+/// What a lane replies to the command of a line, on 2024-03-01.
+fn said_on(alloc: Global, lane: &mut TestLane, command: &str) -> Result<String, Fail> {
+    let bytes = bytes_of(alloc, command)?;
+    told(lane, alloc, day("2024-03-01")?, &bytes)
 }
 
 /// The bytes of a line.
@@ -116,48 +139,78 @@ fn disks_that_fail(rt: HostRuntime) -> Result<(), Fail> {
 
 #[test]
 fn lanes_that_are_loaded(rt: HostRuntime) -> Result<(), Fail> {
-    let alloc = rt.alloc();
+    hold_loaded(&rt, rt.alloc())
+}
+
+fn hold_loaded(rt: &impl Abort, alloc: Global) -> Result<(), Fail> {
     let mut lane = empty(alloc, &[])?;
-    hold_lines(&rt, alloc, &mut lane, ACCOUNTS)?;
+    hold_all(rt, alloc, &mut lane, ACCOUNTS, 4)?;
+    hold_again(rt, alloc, lane)
+}
+
+/// Loads a lane from the disk of this one, and goes on with it.
+fn hold_again(rt: &impl Abort, alloc: Global, lane: TestLane) -> Result<(), Fail> {
     let mut lane = again(alloc, lane)?;
-    assert_eq!(rt; count_of(&lane), 4);
-    hold_lines(&rt, alloc, &mut lane, AGAIN)?;
-    assert_eq!(rt; count_of(&lane), 5);
-    Ok(())
+    hold_more(rt, alloc, &mut lane)
+}
+
+fn hold_more(rt: &impl Abort, alloc: Global, lane: &mut TestLane) -> Result<(), Fail> {
+    same(rt, &count_of(lane), &4, &"loaded");
+    hold_all(rt, alloc, lane, AGAIN, 5)
 }
 
 #[test]
 fn records_that_are_stuck(rt: HostRuntime) -> Result<(), Fail> {
-    let alloc = rt.alloc();
     for (records, place) in STUCK {
-        let mut journal = journal(alloc)?;
-        for record in records.split('\n') {
-            put(&mut journal, &bytes_of(alloc, record)?)?;
-        }
-        assert_eq!(rt; stuck_at(alloc, journal)?, place, "{records}");
+        hold_stuck(&rt, rt.alloc(), records, place)?;
+    }
+    Ok(())
+}
+
+fn hold_stuck(rt: &impl Abort, alloc: Global, records: &str, place: u64) -> Result<(), Fail> {
+    let found = stuck_in(alloc, records)?;
+    same(rt, &found, &place, &records);
+    Ok(())
+}
+
+/// The place at which the lane of these records is stuck.
+fn stuck_in(alloc: Global, records: &str) -> Result<u64, Fail> {
+    let mut journal = journal(alloc)?;
+    put_all(alloc, &mut journal, records)?;
+    stuck_at(alloc, journal)
+}
+
+fn put_all(alloc: Global, journal: &mut Journal<MemoryDisk>, records: &str) -> Result<(), Fail> {
+    for record in records.split('\n') {
+        put(journal, &bytes_of(alloc, record)?)?;
     }
     Ok(())
 }
 
 #[test]
 fn texts(rt: HostRuntime) -> Result<(), Fail> {
-    let alloc = rt.alloc();
+    hold_texts(&rt, rt.alloc())
+}
+
+fn hold_texts(rt: &impl Abort, alloc: Global) -> Result<(), Fail> {
     let mut lane = empty(alloc, &[])?;
+    hold_texts_on(rt, alloc, &mut lane)
+}
+
+fn hold_texts_on(rt: &impl Abort, alloc: Global, lane: &mut TestLane) -> Result<(), Fail> {
     for (key, reply) in [
         ("init", "version 1"),
         ("init", "version 1"),
         ("k1", "refused 0"),
     ] {
-        assert_eq!(rt;
-            after_catalog(alloc, &mut lane, key)?.as_str(),
-            reply,
-            "{key}"
-        );
+        let said = after_catalog(alloc, lane, key)?;
+        same(rt, &said.as_str(), &reply, &key);
     }
     for reply in ["states 2", "states 2"] {
-        assert_eq!(rt; after_overdue(alloc, &mut lane)?.as_str(), reply);
+        let said = after_overdue(alloc, lane)?;
+        same(rt, &said.as_str(), &reply, &reply);
     }
-    assert_eq!(rt; count_of(&lane), 2);
+    same(rt, &count_of(lane), &2, &"texts");
     Ok(())
 }
 
