@@ -29,7 +29,8 @@ use Rattle.kb_laws.proofs.RepeatedCommands.{bytes_eq-self}
 use Rattle.kb_account.proofs.PaymentMoves.{give_back-found}
 use Rattle.kb_attempts.specs.Attempts.{begun_key}
 use Rattle.kb_attempts.specs.Keys.{IsKeyed}
-use Rattle.kb_attempts.proofs.FoundEntries.{found-put, find-put-self}
+use Rattle.kb_replays.proofs.PutEntries.{find-put-self}
+use Rattle.kb_attempts.proofs.FoundEntries.{found-put}
 
 -- keeping an answer leaves both
 keep-account : (command : Command) (key : Option (List ℕ)) (outcome : Outcome)

@@ -67,12 +67,13 @@ writes_from fault_count old other new entry steps.Done log outbox writes = recor
   outbox = rw outbox writes.outbox;
   failed = rw log writes.failed;
   running = writes.running;
+  may = rw log writes.may;
 }
 writes_from fault_count old other new entry steps.DiskFault log outbox writes = record {
   history = rw log writes.history;
   outbox = rw outbox writes.outbox;
   marked = writes.marked;
-  ran = rw log writes.ran;
+  may = rw log writes.may;
   stopped = writes.stopped;
   cause = rw log writes.cause;
 }

@@ -1,9 +1,10 @@
 -- What a lane replies to a command, and what it leaves.
-use Rattle.std.specs.Prelude.{ℕ, ◌≡◌, Bool, true, false, ◌&&◌, [], ◌∷◌, ◌++◌, ⊤}
+use Rattle.std.specs.Prelude.{ℕ, ◌≡◌, Bool, true, false, ◌&&◌, [], ◌∷◌, ◌++◌, length, ⊤}
 use Rattle.kb_base.specs.Faults.{Rose}
 use Rattle.kb_reply.specs.declared.reply.LaneReply.{LaneReply}
 use Rattle.kb_reply.specs.declared.reply.LaneReply.TheVariants as replies
-use Rattle.kb_log.specs.Entries.{Entry}
+use Rattle.kb_log.specs.Entries.{Entry, payload}
+use Rattle.kb_log.specs.Logs.{MayAppend}
 use Rattle.kb_machine.specs.Judged.{Judged, is_new}
 use Rattle.kb_machine.specs.Machines.{MachineValue, reply_of}
 use Rattle.kb_lane.specs.Lanes.{LaneValue}
@@ -35,20 +36,22 @@ is_accepted replies.NoMemory = false
 abbrev pub is_taken : Judged LaneReply MachineValue → LaneReply → Bool
 is_taken told reply = is_new told && is_accepted reply
 
--- A command is taken: the history has it at its end, what it leaves to do stands at the end of the outbox,
--- and the lane goes on.
+-- A command is taken: no append had failed, and there was room for it; the history has it at its end, what it
+-- leaves to do stands at the end of the outbox, and the lane goes on.
 pub record Takes {D G : Type 0} (old new : LaneValue D G) (entry : Entry) : Type 0 where
   pub history : new.log.history ≡ old.log.history ++ entry ∷ []
   pub outbox : new.outbox ≡ old.outbox ++ work_of entry
   pub failed : new.log.failed ≡ old.log.failed
   pub running : new.log.journal.stopped ≡ false
+  pub may : MayAppend old.log (length (payload entry))
 
--- The disk failed while a command was written down: the command is marked, and the lane has stopped.
+-- The disk failed while a command was written down, for which there was room: the command is marked, and the
+-- lane has stopped.
 pub record IsMarked {D G : Type 0} (fault_count : D → ℕ) (old new : LaneValue D G) (entry : Entry)
     : Type 0 where
   pub history : new.log.history ≡ old.log.history
   pub outbox : new.outbox ≡ old.outbox
   pub marked : new.log.failed ≡ entry ∷ []
-  pub ran : old.log.journal.stopped ≡ false
+  pub may : MayAppend old.log (length (payload entry))
   pub stopped : new.log.journal.stopped ≡ true
   pub cause : Rose (fault_count old.log.journal.disk) (fault_count new.log.journal.disk)

@@ -159,8 +159,6 @@ impl<D: Disk, G: Gateway + Drop> Lane<D, G> {
         ensures reply { IfOk result (λ reply. reply_of (judged (machine_of self.old) today command.now)
             ≡ reply) }
         ensures accepted { IfOk result (λ reply. is_accepted reply ≡ true) }
-        ensures may { OnOk result (is_new (judged (machine_of self.old) today command.now) ≡ true
-            → MayAppend self.old.log (length (payload (today, command.now)))) }
         ensures taken { OnOk result (is_new (judged (machine_of self.old) today command.now) ≡ true
             → Takes self.old self.new (today, command.now)) }
         ensures kept { OnOk result (is_new (judged (machine_of self.old) today command.now) ≡ false
@@ -198,8 +196,6 @@ impl<D: Disk, G: Gateway + Drop> Lane<D, G> {
             → (self.old.log.journal.stopped ≡ false)
             × IsFull self.old.log.journal (length (payload (today, command.now)))
             × (commands ≡ length self.old.log.history) × (size ≡ self.old.log.journal.gate + 1) }
-        ensures may { is_taken (judged (machine_of self.old) today command.now) result ≡ true
-            → MayAppend self.old.log (length (payload (today, command.now))) }
         ensures moments { is_new (judged (machine_of self.old) today command.now) ≡ true
             → (result ≡ replies.NoMemory → ⊥)
             → StandsThroughout D.honest D.moment D.left_since self.old.log self.new.log (today, command.now) }
@@ -234,8 +230,6 @@ impl<D: Disk, G: Gateway + Drop> Lane<D, G> {
             → (self.old.log.journal.stopped ≡ false)
             × IsFull self.old.log.journal (length (payload (today, command.now)))
             × (commands ≡ length self.old.log.history) × (size ≡ self.old.log.journal.gate + 1) }
-        ensures may { is_taken (judged (machine_of self.old) today command.now) result ≡ true
-            → MayAppend self.old.log (length (payload (today, command.now))) }
         ensures moments { is_new (judged (machine_of self.old) today command.now) ≡ true
             → (result ≡ replies.NoMemory → ⊥)
             → StandsThroughout D.honest D.moment D.left_since self.old.log self.new.log (today, command.now) }

@@ -1,4 +1,4 @@
-mod PutEntries
+pub mod PutEntries
 mod BookSteps
 mod ToldReplies
 mod TextSteps

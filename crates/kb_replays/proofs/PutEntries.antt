@@ -12,12 +12,12 @@ use Rattle.kb_laws.proofs.RepeatedCommands.{bytes_eq-self}
 
 module _ {X : Type 0} (key own : List ℕ) (value : X) (entries : Keyed X) where
   -- a key that is the same, or another
-  abbrev found_by : Bool → Type 0
+  abbrev pub found_by : Bool → Type 0
   found_by same =
       find by_words key (put by_words own value entries) ≡ cond same (Some value) (find by_words key entries)
 
   -- it is found if the key is the same, and all else as before
-  find-put-words : found_by (bytes_eq key own)
+  pub find-put-words : found_by (bytes_eq key own)
   find-put-words =
       find-put by_words nat_list_cmp_total key own value entries
       ∙ ap (λ same. cond same (Some value) (find by_words key entries)) (is_eq-slice_cmp key own)
