@@ -1,0 +1,14 @@
+//! What tells today's day.
+ghost use Rattle.std.specs.Prelude.{◌≡◌, ℕ, Option, IfSome};
+
+use kb_days::Day;
+
+/// A clock, which workers share.
+pub trait Clock: Sync {
+    /// The day that every call gives, where the object tells it.
+    ghost day: { Self → Option ℕ };
+
+    /// Today's day.
+    fn today(&self) -> Day
+        ensures { IfSome (day self.now) (λ day. result ≡ day) };
+}
