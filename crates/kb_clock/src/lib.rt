@@ -1,7 +1,8 @@
 //! Clocks: the day on which a program runs.
 //!
-//! The rule kept here: a clock always gives a day that a command may name. Layers above are proved against the
-//! trait alone, under which each call may give another day, unless the clock tells the one day that it gives.
+//! The rule kept here: a clock always gives a day that a command may name. Layers above are proved against
+//! the trait alone, under which each call may give another day, unless the clock tells the one day that it
+//! gives.
 #![tactic(auto)]
 
 mod clock;
