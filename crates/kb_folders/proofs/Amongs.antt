@@ -49,7 +49,8 @@ module _ (folder : List ℕ) (lane : ℕ) (this_folder : List ℕ) (this : ℕ) 
       ≡ with_lane (is_among (place ∷ places)) folder lane false this_folder this
   one_struck true place places is later = rw is
       (rw (same_place place.folder place.lane folder lane this_folder this is)
-      (gone own (is_among (without places folder lane) this_folder this) (is_among places this_folder this) later))
+      (gone own (is_among (without places folder lane) this_folder this)
+      (is_among places this_folder this) later))
   one_struck false place places is later = rw is
       (stays (is_place place.folder place.lane this_folder this) own
       (is_among (without places folder lane) this_folder this) (is_among places this_folder this)

@@ -6,8 +6,8 @@ use kb_vault::Vault;
 use std::alloc::Global;
 use std::test::Fail;
 
-/// Writes 7 and 8 into lane 3 of the folder shop, gives it back and takes it out again: how many of three bytes
-/// are read then, and the bytes.
+/// Writes 7 and 8 into lane 3 of the folder shop, gives it back and takes it out again: how many of three
+/// bytes are read then, and the bytes.
 pub fn kept_by<V: Vault>(vault: &mut V, alloc: Global) -> Result<(usize, [u8; 3]), Fail>
     requires { V.is_out vault.old (codes "shop") 3 ≡ false }
 {
