@@ -8,7 +8,7 @@ use kb_links::Link;
 use std::io;
 use std::io::{ErrorKind, Read, Write};
 use std::marker::Model;
-use std::net::TcpStream;
+use std::net::{Net, TcpListener, TcpStream, ToSocketAddrs};
 use std::time::Duration;
 
 /// How long a peer may be silent, in seconds.
@@ -45,6 +45,22 @@ impl TcpLink {
             reads: FaultCount::new(),
             writes: FaultCount::new(),
         })
+    }
+
+    /// A link with the peer of this name, `host:port`, of which no call has failed. Each address of the host
+    /// is tried in turn, and has a link's patience to answer.
+    pub fn connect<R>(net: &R, name: &str) -> io::Result<TcpLink>
+    where
+        R: Net<Listener = TcpListener, Stream = TcpStream>,
+        ensures { IfOk result (λ link. link ≡ record { reads = 0; writes = 0 }) }
+    {
+        let patience = Duration::from_secs(PATIENCE);
+        for address in name.to_socket_addrs(net)? {
+            if let Ok(stream) = TcpStream::connect_timeout(net, &address, patience) {
+                return TcpLink::new(stream);
+            }
+        }
+        Err(ErrorKind::NotConnected.into())
     }
 }
 
