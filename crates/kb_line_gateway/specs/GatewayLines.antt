@@ -1,0 +1,71 @@
+-- The lines between this program and a payment gateway. Each ends with a line feed.
+use Rattle.std.specs.Prelude.{ℕ, ◌≡◌, List, [], ◌∷◌, ◌++◌, codes, decimal, refl}
+use Rattle.std.specs.Fmt.{digits}
+use Rattle.uuid.specs.Text.{hyphenated_text, lower}
+use Rattle.uuid.proofs.OnLiterals.{uuid_on_literals}
+use Rattle.kb_base.specs.Lines.{line_feed}
+use Rattle.kb_payment.specs.declared.attempt.Kind.{Kind}
+use Rattle.kb_payment.specs.declared.attempt.Kind.TheVariants.{Purchase, Refund, Chargeback}
+use Rattle.kb_gateway.specs.declared.order.Order.{Order}
+use Rattle.kb_gateway.specs.declared.told.Told.{Told}
+use Rattle.kb_gateway.specs.declared.told.Told.TheVariants.{Processed, Pending, Error, Canceled, Undefined}
+use Rattle.kb_gateway.specs.declared.told.Seen.{Seen}
+use Rattle.kb_gateway.specs.declared.told.Seen.TheVariants as seen
+
+-- a text and its line feed
+abbrev pub line : List ℕ → List ℕ
+line text = text ++ line_feed ∷ []
+
+-- an id in lower case, with hyphens
+abbrev pub id_text : List ℕ → List ℕ
+id_text id = hyphenated_text lower id
+
+-- the word of a kind
+abbrev pub kind_word : Kind → List ℕ
+kind_word Purchase = codes "PURCHASE"
+kind_word Refund = codes "REFUND"
+kind_word Chargeback = codes "CHARGEBACK"
+
+-- the line that asks for an order; its amount is in minor units
+abbrev pub ask_line : Order → List ℕ
+ask_line order = line (codes "ASK " ++ id_text order.id ++ codes " " ++ kind_word order.kind
+    ++ codes " " ++ decimal order.amount ++ codes " " ++ order.currency)
+
+-- the line that asks what became of an order
+abbrev pub look_line : Order → List ℕ
+look_line order = line (codes "LOOK " ++ id_text order.id)
+
+-- the bytes 109, 232, 170, .. and 182 are the id 6de8aacc-207b-5557-9280-e2ca5ea9e0b6
+abbrev some_order : Order
+some_order = record {
+  account = codes "a1";
+  key = codes "p1";
+  id = 109 ∷ 232 ∷ 170 ∷ 204 ∷ 32 ∷ 123 ∷ 85 ∷ 87 ∷ 146 ∷ 128 ∷ 226 ∷ 202 ∷ 94 ∷ 169 ∷ 224 ∷ 182 ∷ [];
+  kind = Refund;
+  amount = 1250;
+  currency = codes "USD";
+}
+
+asks : ask_line some_order ≡ line (codes "ASK 6de8aacc-207b-5557-9280-e2ca5ea9e0b6 REFUND 1250 USD")
+unfolding digits uuid_on_literals
+asks = refl
+
+looks_up : look_line some_order ≡ line (codes "LOOK 6de8aacc-207b-5557-9280-e2ca5ea9e0b6")
+unfolding uuid_on_literals
+looks_up = refl
+
+-- the line that answers an order
+abbrev pub told_line : Told → List ℕ
+told_line Processed = line (codes "PROCESSED")
+told_line Pending = line (codes "PENDING")
+told_line Error = line (codes "ERROR")
+told_line Canceled = line (codes "CANCELED")
+told_line Undefined = line (codes "UNDEFINED")
+
+-- the line that answers a look-up
+abbrev pub seen_line : Seen → List ℕ
+seen_line (seen.Told told) = told_line told
+seen_line seen.NotSeen = line (codes "NOTSEEN")
+
+refused : seen_line (seen.Told Error) ≡ 69 ∷ 82 ∷ 82 ∷ 79 ∷ 82 ∷ 10 ∷ []
+refused = refl
