@@ -1,5 +1,5 @@
 -- Payments as a map from key to attempt, and what they add up to.
-use Rattle.std.specs.Prelude.{ℕ, Bool, false, List, map, ℤ, pos, ◌+ℤ◌, ◌≡◌, ◌==◌, nat_le, ◌&&◌, Option, Some}
+use Rattle.std.specs.Prelude.{ℕ, Bool, true, false, List, map, ℤ, pos, ◌+ℤ◌, ◌≡◌, ◌==◌, nat_le, ◌&&◌, Option, Some}
 use Rattle.std.specs.Prelude.{if◌then◌else◌}
 use Rattle.std.specs.FinMap.{find, put}
 use Rattle.std.specs.List.{filter, list_any}
@@ -42,6 +42,11 @@ has_automatic_since payments invoice day =
 abbrev pub open_keys : PaymentsValue → List (List ℕ)
 open_keys payments =
     map (λ entry. entry.0) (filter (λ (entry : List ℕ × Attempt). is_open entry.1.status) payments)
+
+-- a key has an attempt, which is open
+abbrev pub IsOpenKey : PaymentsValue → List ℕ → Type 0
+IsOpenKey payments key = (attempt : Attempt) × (attempt_of payments key ≡ Some attempt)
+    × (is_open attempt.status ≡ true)
 
 -- the final attempts stay as they are
 abbrev pub StayFinal : PaymentsValue → PaymentsValue → Type 0

@@ -1,7 +1,8 @@
 //! The payments of an account.
-ghost use Rattle.std.specs.Prelude.{◌≡◌, ◌≤ℤ◌, ℕ, pos, neg_ℤ, int_lt, None, Err, IfOk, IfErr, IfSome};
+ghost use Rattle.std.specs.Prelude.{◌≡◌, ◌≤ℤ◌, ℕ, pos, neg_ℤ, int_lt, None, Err, IfOk, IfErr, IfSome, All, List};
+ghost use Rattle.std.specs.List.{AllPairs};
 ghost use Rattle.std.specs.Prelude.{option_copied};
-ghost use Rattle.kb_payment.specs.PaymentSums.{attempt_of, open_purchases, has_automatic_since, open_keys};
+ghost use Rattle.kb_payment.specs.PaymentSums.{attempt_of, open_purchases, has_automatic_since, open_keys, IsOpenKey};
 ghost use Rattle.kb_payment.specs.PaymentSums.{paid_on, StayFinal, Moves};
 ghost use Rattle.kb_payment.specs.PaymentEdits.{no_payments, purchased, purchase_fault, refunded};
 ghost use Rattle.kb_payment.specs.PaymentEdits.{charged_back, give_back_fault, settled, settle_fault};
@@ -90,10 +91,12 @@ impl Payments {
 
     /// The keys of the open attempts, in order of the keys. It looks at all attempts.
     pub fn open_attempts(&self, alloc: Global) -> Result<Vec<Name>, NoMemory>
-        ensures { IfOk result (λ keys. keys.items ≡ open_keys self.now) }
+        ensures keys { IfOk result (λ keys. keys.items ≡ open_keys self.now) }
+        ensures open { IfOk result (λ keys. All (IsOpenKey self.now) keys.items) }
+        ensures apart { IfOk result (λ keys. AllPairs (λ (one other : List ℕ). one ≡ other → ⊥) keys.items) }
     {
         let entries = self.attempts.entries(alloc)?;
-        open_among(alloc, &entries)
+        Ok(open_among(alloc, &entries)?)
     }
 
     /// Begins to pay an amount on an invoice of this balance: the amount that is asked for, or else as much

@@ -1,3 +1,4 @@
+pub mod ApartKeys
 pub mod EntrySums
 pub mod MemberSums
 pub mod NextEntries
