@@ -1,5 +1,7 @@
 -- Books by name, as std's map has them and as the definitions have them.
 use Rattle.std.proofs.Common.{◌≡◌, ℕ, true≢false, refl, sym, ap, ◌∙◌, List, [], ◌∷◌, Option, Some, None, cond, IsSome}
+use Rattle.std.proofs.Common.{◌<◌, length, get_or, AllPairs}
+use Rattle.std.proofs.lemmas.Map.Keys.{Less-from_sorted}
 use Rattle.std.specs.declared.cmp.Ordering.TheVariants.{Less, Equal, Greater}
 use Rattle.std.specs.Ordering.{is_eq, match_ordering}
 use Rattle.std.specs.Cmp.{tied_itself}
@@ -80,3 +82,13 @@ pub written_book : {X : Type 0} (k : List ℕ) (w : X) (old new : List (List ℕ
     → new ≡ set_value (is_at (by_words k)) old w → IsStrictlySortedBy by_words (keys_of old)
     → IsSome (find by_words k old) → new ≡ put by_words k w old
 written_book k w old new is sorted there = is ∙ set-put k w old sorted there
+
+-- names in order are different ones
+pub sorted_apart : (names : List (List ℕ)) → IsStrictlySortedBy by_words names
+    → AllPairs (λ (one other : List ℕ). one ≡ other → ⊥) names
+sorted_apart names sorted i j d below inside same =
+    let less : by_words (get_or names i d) (get_or names j d) ≡ Less =
+    Less-from_sorted by_words names i j d sorted below inside in
+    let tied : by_words (get_or names i d) (get_or names j d) ≡ Equal =
+    ap (by_words (get_or names i d)) (sym same) ∙ by_words-same (get_or names i d) in
+    cc

@@ -1,5 +1,6 @@
 //! The books of accounts, by name.
-ghost use Rattle.std.specs.Prelude.{◌≡◌, ◌<◌, ◌^◌, [], length, option_copied, IsSome, IfOk, OnOk, OnErr, None, map};
+ghost use Rattle.std.specs.Prelude.{◌≡◌, ◌<◌, ◌^◌, [], length, option_copied, IsSome, IfOk, OnOk, OnErr, None, map, List, ℕ};
+ghost use Rattle.std.specs.List.{AllPairs};
 ghost use Rattle.std.specs.FinMap.{find, put};
 ghost use Rattle.kb_sharing.specs.Keys.{by_words};
 ghost use Rattle.kb_book.specs.Books.{BookValue, Keyed};
@@ -73,9 +74,10 @@ impl Books {
         let _book = self.by_name.remove(account);
     }
 
-    /// The names of the accounts, in their order.
+    /// The names of the accounts, in their order. None is there twice.
     pub fn names(&self, alloc: Global) -> Result<Vec<Name>, NoMemory>
-        ensures { IfOk result (λ names. names.items ≡ map (λ entry. entry.0) self.now) }
+        ensures names { IfOk result (λ names. names.items ≡ map (λ entry. entry.0) self.now) }
+        ensures apart { IfOk result (λ names. AllPairs (λ (one other : List ℕ). one ≡ other → ⊥) names.items) }
     {
         let mut names = Vec::with_capacity(alloc, self.len())?;
         for name in self.by_name.keys() {
