@@ -1,5 +1,5 @@
 //! The log of a lane.
-ghost use Rattle.std.specs.Prelude.{◌+◌, ◌<◌, ◌≡◌, ◌↔◌, ◌≤◌, ◌++◌, ◌∷◌, [], ℕ, true, false, length, IsTrue, IfOk, IfErr, OnOk, OnErr, IsErrOf};
+ghost use Rattle.std.specs.Prelude.{◌+◌, ◌^◌, ◌<◌, ◌≡◌, ◌↔◌, ◌≤◌, ◌++◌, ◌∷◌, [], ℕ, true, false, length, IsTrue, IfOk, IfErr, OnOk, OnErr, IsErrOf};
 ghost use Rattle.kb_codec.specs.declared.command.Command.{Command as AnyCommand};
 ghost use Rattle.kb_disk.specs.Moments.{AtEachMoment};
 ghost use Rattle.kb_journal.specs.Format.{IsSized, IsWithOrWithout};
@@ -135,6 +135,7 @@ impl<D: Disk> Log<D> {
         requires payload { bytes.now ≡ payload (today, command.now) }
         requires sized { IsSized bytes.now }
         ensures outcome { Appends D.fault_count self.old self.new (today, command.now) (length bytes.now) result }
+        ensures few { OnOk result (length self.old.history < 2 ^ 32) }
         ensures moments { self.old.journal.stopped ≡ false → IsTrue (D.honest self.old.journal.disk)
             → AtEachMoment D.moment D.left_since self.old.journal.disk self.new.journal.disk
             (IsWithOrWithout self.old.journal.lanes self.old.journal.lane (payloads self.old.history) bytes.now) }

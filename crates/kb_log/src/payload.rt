@@ -1,5 +1,5 @@
 //! A command with its day, as bytes.
-ghost use Rattle.std.specs.Prelude.{◌≡◌, ◌<◌, ◌^◌, ℕ, IfOk, IfSome, Some, length};
+ghost use Rattle.std.specs.Prelude.{◌≡◌, ◌<◌, ◌^◌, ℕ, IfOk, OnOk, IfSome, Some, length};
 ghost use Rattle.std.specs.Int.{w32, to_be_bytes};
 ghost use Rattle.kb_codec.specs.declared.command.Command.{Command as AnyCommand};
 ghost use Rattle.kb_codec.specs.Commands.{IsDay};
@@ -19,6 +19,7 @@ use std::alloc::Global;
 pub fn payload_of(alloc: Global, today: Day, command: &Command) -> Result<Vec<u8>, NoMemory>
     ensures payload { IfOk result (λ bytes. bytes.items ≡ payload (today, command.now)) }
     ensures sized { IfOk result (λ bytes. IsSized bytes.items) }
+    ensures dated { OnOk result (IsDay today) }
 {
     let spelling = encode(alloc, command)?;
     let mut bytes = Vec::with_capacity(alloc, spelling.len() + 4)?;
@@ -33,7 +34,8 @@ pub fn payload_of(alloc: Global, today: Day, command: &Command) -> Result<Vec<u8
 /// A day in four bytes.
 #[tactic(auto, unfolding(kb_codec::specs::Members::day_bytes, kb_codec::specs::Members::four_bytes))]
 fn day_bytes(today: Day) -> [u8; 4]
-    ensures { result ≡ day_bytes today }
+    ensures bytes { result ≡ day_bytes today }
+    ensures dated { IsDay today }
 {
     today.number().to_be_bytes()
 }
