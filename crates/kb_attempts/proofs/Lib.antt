@@ -1,5 +1,5 @@
-mod FoundEntries
-mod JudgedCases
+pub mod FoundEntries
+pub mod JudgedCases
 mod AcceptedBooks
 pub mod KeyedBooks
 pub mod StayingAttempts

@@ -1,5 +1,5 @@
 -- What a settlement makes of its attempt, and when it is new.
-use Rattle.std.proofs.Common.{◌≡◌, ℕ, true, List, Option, Some, None, refl, sym, ap}
+use Rattle.std.proofs.Common.{◌≡◌, ℕ, true, false, bytes_eq, List, Option, Some, None, refl, sym, ap}
 use Rattle.std.proofs.Common.{◌∙◌, true≢false}
 use Rattle.kb_payment.specs.declared.attempt.Attempt.{Attempt}
 use Rattle.kb_payment.specs.declared.attempt.Status.{Status}
@@ -12,8 +12,10 @@ use Rattle.kb_book.specs.Books.{BookValue}
 use Rattle.kb_machine.specs.Judged.{after_judged, is_new}
 use Rattle.kb_machine.specs.Machines.{MachineValue, book_of}
 use Rattle.kb_attempts.specs.Attempts.{attempt_in, attempt_at}
-use Rattle.kb_attempts.specs.Settlements.{SettlementsSettle, SettlementsAreNew}
-use Rattle.kb_replays.proofs.PutEntries.{find-put-self}
+use Rattle.kb_attempts.specs.Settlements.{SettlementsSettle, SettlementsAreNew, SettlementsLeaveOthers}
+use Rattle.kb_laws.proofs.RepeatedCommands.{bytes_eq-self}
+use Rattle.kb_replays.proofs.PutEntries.{find-put-self, find-put-other}
+use Rattle.kb_attempts.proofs.FoundEntries.{found-put}
 use Rattle.kb_attempts.proofs.JudgedCases.{judged-cases, accepted_on, accepted-new}
 use Rattle.kb_attempts.proofs.AcceptedBooks.{accepted-payments}
 
@@ -64,3 +66,32 @@ settlements_are_new machine today account key status attempt is opened other =
     accepted-new machine today
     (kinds.Settle (record { account = account; payment = key; status = status })) found.0 found.1 refl
     (rw (found.2, opened, other) refl)
+
+-- the attempt of another key is as it was
+other-stays : (payments : PaymentsValue) (own key : List ℕ) (status : Status) → bytes_eq key own ≡ false
+    → attempt_of (settled payments own status) key ≡ attempt_of payments key
+other-stays payments own key status other = by_found (attempt_of payments own) refl
+  where
+    by_found : (found : Option Attempt) → attempt_of payments own ≡ found
+        → attempt_of (settled payments own status) key ≡ attempt_of payments key
+    by_found None is = rw is refl
+    by_found (Some attempt) is = rw is (find-put-other key own (with_status attempt status) payments other)
+
+pub settlements_leave_others : SettlementsLeaveOthers
+settlements_leave_others machine today c account key free =
+    judged-cases machine today
+    (λ comes. attempt_at (after_judged machine comes) account key ≡ attempt_at machine account key)
+    (λ reply. refl) (λ refusal. refl) (kinds.Settle c) (λ text. absurd (true≢false (sym text)))
+    (λ opened opens. absurd (cc))
+    (λ book there none.
+    found-put account c.account (accepted_on machine today (kinds.Settle c) book).1 machine.books
+    (λ found. attempt_in key found ≡ attempt_at machine account key) (λ other. refl)
+    (λ same.
+    ap (λ payments. attempt_of payments key)
+    (accepted-payments machine.texts.world book today (kinds.Settle c))
+    ∙ other-stays book.payments c.payment key c.status (other-key same)
+    ∙ sym (ap (attempt_in key) (ap (book_of machine) same ∙ there))))
+  where
+    other-key : account ≡ c.account → bytes_eq key c.payment ≡ false
+    other-key same =
+        let here : bytes_eq account c.account ≡ true = rw same (bytes_eq-self c.account) in rw here at free

@@ -6,12 +6,13 @@ use Rattle.kb_payment.specs.declared.attempt.Status.{Status}
 use Rattle.kb_payment.specs.declared.attempt.Status.TheVariants.{Pending, Success}
 use Rattle.kb_payment.specs.Attempts.{is_open, with_status}
 use Rattle.kb_codec.specs.declared.command.Command.TheVariants as kinds
+use Rattle.kb_codec.specs.declared.command.Settle.{Settle}
 use Rattle.kb_book.specs.PaymentRows.{same_status}
 use Rattle.kb_book.specs.Steps.{step}
 use Rattle.kb_machine.specs.Judged.{after_judged, is_new}
 use Rattle.kb_machine.specs.Machines.{MachineValue, judged}
 use Rattle.kb_machine.specs.Histories.{entry_after}
-use Rattle.kb_attempts.specs.Attempts.{attempt_at}
+use Rattle.kb_attempts.specs.Attempts.{attempt_at, settles}
 use Rattle.kb_attempts.specs.SmallMachines.{owing, pay_p1, p1_begun, settle_p1}
 
 -- a new settlement gives its attempt its status
@@ -47,3 +48,10 @@ succeeds = refl
 not_pending_twice : is_new (judged pending (march 3) (settle_p1 Pending)) ≡ false
 unfolding judged step
 not_pending_twice = refl
+
+-- a settlement leaves every other attempt as it is
+abbrev pub SettlementsLeaveOthers : Type 0
+SettlementsLeaveOthers = (machine : MachineValue) (today : ℕ) (c : Settle) (account key : List ℕ)
+    → settles (kinds.Settle c) account key ≡ false
+    → attempt_at (after_judged machine (judged machine today (kinds.Settle c))) account key
+    ≡ attempt_at machine account key
