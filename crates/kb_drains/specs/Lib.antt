@@ -1,0 +1,5 @@
+pub mod OwnWork
+pub mod BilledMachines
+pub mod DueWork
+pub mod SettledWork
+pub mod NamedWork
