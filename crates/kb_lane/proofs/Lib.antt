@@ -1,7 +1,12 @@
+mod Asking
 mod Choices
+mod Freed
 mod Grows
+mod Kept
+mod Pairs
 mod Places
 mod SaidReplies
 mod Settling
 mod Stuck
+mod Within
 mod Written

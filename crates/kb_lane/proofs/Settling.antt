@@ -1,24 +1,36 @@
 -- What is known of the settlement that was chosen, and what a step leaves of a lane whose gateway was asked.
-use Rattle.std.proofs.Common.{ℕ, ◌≡◌, List, [], ◌∷◌, Option, None, Some, Result, Ok, Err, false, true≢false, refl, sym, ap, subst, ◌∙◌}
+use Rattle.std.proofs.Common.{ℕ, ◌≡◌, List, [], ◌∷◌, length, Option, None, Some, IsSome, Result, Ok, Err, false, true≢false, refl, sym, ap, subst, ◌∙◌}
 use Rattle.kb_base.specs.declared.fault.Failed.{Failed}
+use Rattle.std.proofs.lemmas.Option.{none-some}
+use Rattle.kb_gateway.specs.Answers.{asked_of}
 use Rattle.kb_gateway.specs.declared.order.Asked.{Asked}
+use Rattle.kb_gateway.specs.declared.order.Order.{Order}
 use Rattle.kb_gateway.specs.declared.told.Saying.{Saying}
 use Rattle.kb_gateway.specs.declared.told.Told.{Told}
 use Rattle.kb_gateway.specs.declared.told.Told.TheVariants as told
 use Rattle.kb_codec.specs.declared.command.Command.{Command}
 use Rattle.kb_codec.specs.declared.command.Command.TheVariants as kinds
+use Rattle.kb_payment.specs.declared.attempt.Attempt.{Attempt}
+use Rattle.kb_payment.specs.declared.attempt.Status.{Status}
 use Rattle.kb_payment.specs.declared.attempt.Status.TheVariants as status
+use Rattle.kb_payment.specs.PaymentSums.{attempt_of}
+use Rattle.kb_book.specs.Books.{BookValue}
+use Rattle.kb_journal.specs.declared.fault.AppendFault.{AppendFault}
+use Rattle.kb_journal.specs.declared.fault.AppendFault.TheVariants as fault
 use Rattle.kb_reply.specs.declared.step.Step.{Step}
 use Rattle.kb_reply.specs.declared.step.Step.TheVariants as steps
-use Rattle.kb_log.specs.Entries.{Entry}
-use Rattle.kb_machine.specs.Machines.{MachineValue}
+use Rattle.kb_log.specs.Entries.{Entry, payload}
+use Rattle.kb_log.specs.Logs.{LogValue, Appends}
+use Rattle.kb_machine.specs.Machines.{MachineValue, book_of}
 use Rattle.kb_lane.specs.declared.settlement.Settlement.{Settlement}
 use Rattle.kb_lane.specs.declared.work.Work.{Work}
 use Rattle.kb_lane.specs.declared.work.Work.TheVariants.{Check}
 use Rattle.kb_lane.specs.Lanes.{LaneValue}
+use Rattle.kb_attempts.specs.Attempts.{attempt_in}
+use Rattle.kb_lane.specs.Asking.{asked_for, attempt_asked, IsBegun, SettlesNone}
 use Rattle.kb_lane.specs.Works.{work_of}
-use Rattle.kb_lane.specs.Draining.{settled_by, with_outbox, Writes, Settles, Asks, Orders}
-use Rattle.kb_lane.specs.Private.Settlements.{IsChosen, IsReadyOf, IsBusy}
+use Rattle.kb_lane.specs.Draining.{order_for, order_in, order_of, settled_by, with_outbox, Writes, Accepts, Asks, Orders}
+use Rattle.kb_lane.specs.Private.Settlements.{IsChosen, IsReadyOf, IsBusy, fault_step}
 
 -- a settlement that was chosen is the one that there is
 pub chosen_command : (machine : MachineValue) (today : ℕ) (command : Option Command) (ready : Settlement)
@@ -88,9 +100,9 @@ module _ {D G : Type 0} (fault_count : D → ℕ) (asked : G → Option (List As
     (faults : G → ℕ) (old new : LaneValue D G) (today : ℕ) (account key : List ℕ) (later : List Work) where
   -- a lane that runs doesn't tell that it has stopped
   not-stopped : (command : Option Command) (count : ℕ) → old.log.journal.stopped ≡ false
-      → Settles fault_count (with_outbox old later) new today command (steps.Stopped count) → ⊥
+      → Accepts fault_count (with_outbox old later) new today command (steps.Stopped count) → ⊥
   not-stopped None count running settles = absurd (let no = settles.0 in cc)
-  not-stopped (Some command) count running settles = true≢false (sym settles.0.0 ∙ running)
+  not-stopped (Some command) count running settles = true≢false (sym settles.0 ∙ running)
 
   -- what an answer leaves is what the handling of its order leaves
   pub asks_orders : (step : Step) → IsBusy step
@@ -103,3 +115,90 @@ module _ {D G : Type 0} (fault_count : D → ℕ) (asked : G → Option (List As
       absurd (not-stopped (settled_by account key asks.answer) count asks.running asks.settled)
   asks_orders (steps.Full commands size) busy asks = asks
   asks_orders steps.NoMemory busy asks = absurd busy
+
+some-same : {X : Type 0} {one other : X} → Some one ≡ Some other → one ≡ other
+some-same is = cc
+
+-- the order of a payment is noted as that payment
+pub order_asked : (machine : MachineValue) (account key : List ℕ) (order : Order)
+    → order_of machine account key ≡ Some order → asked_of order ≡ asked_for (account, key)
+order_asked machine account key order is = by_book (book_of machine account) is
+  where
+    by_attempt : (book : BookValue) (found : Option Attempt) → order_for account key book found ≡ Some order
+        → asked_of order ≡ asked_for (account, key)
+    by_attempt book None is = absurd (none-some order is)
+    by_attempt book (Some attempt) is = ap asked_of (sym (some-same is))
+
+    by_book : (found : Option BookValue) → order_in account key found ≡ Some order
+        → asked_of order ≡ asked_for (account, key)
+    by_book None is = absurd (none-some order is)
+    by_book (Some book) is = by_attempt book (attempt_of book.payments key) is
+
+-- a payment with an attempt has an order
+pub order_there : (machine : MachineValue) (account key : List ℕ)
+    → IsBegun (attempt_asked machine (asked_for (account, key))) → IsSome (order_of machine account key)
+order_there machine account key begun = by_book (book_of machine account) begun
+  where
+    by_attempt : (book : BookValue) (found : Option Attempt) → IsBegun found
+        → IsSome (order_for account key book found)
+    by_attempt book None begun = absurd begun
+    by_attempt book (Some attempt) begun = refl
+
+    by_book : (found : Option BookValue) → IsBegun (attempt_in key found)
+        → IsSome (order_in account key found)
+    by_book None begun = absurd begun
+    by_book (Some book) begun = by_attempt book (attempt_of book.payments key) begun
+
+-- the settlement by an answer settles none of the payments that are left
+pub settled_frees : (account key : List ℕ) (answer : Result Told Failed) (command : Command) (later : List Work)
+    → settled_by account key answer ≡ Some command
+    → ((status : Status) → SettlesNone (kinds.Settle (record {
+      account = account;
+      payment = key;
+      status = status;
+    })) later)
+    → SettlesNone command later
+settled_frees account key (Ok told.Processed) command later is frees =
+    subst (λ it. SettlesNone it later) (some-same is) (frees status.Success)
+settled_frees account key (Ok told.Pending) command later is frees =
+    subst (λ it. SettlesNone it later) (some-same is) (frees status.Pending)
+settled_frees account key (Ok told.Error) command later is frees =
+    subst (λ it. SettlesNone it later) (some-same is) (frees status.PaymentFailure)
+settled_frees account key (Ok told.Canceled) command later is frees =
+    subst (λ it. SettlesNone it later) (some-same is) (frees status.PluginFailure)
+settled_frees account key (Ok told.Undefined) command later is frees = absurd (none-some command is)
+settled_frees account key (Err failed) command later is frees = absurd (none-some command is)
+
+-- what a failed append leaves
+module _ {D : Type 0} (fault_count : D → ℕ) (old new : LogValue D) (entry : Entry) (size : ℕ) where
+  pub failed_history : (fault : AppendFault) → Appends fault_count old new entry size (Err fault)
+      → new.history ≡ old.history
+  failed_history (fault.Stopped count) appends = ap (λ log. log.history) appends.2
+  failed_history (fault.Full commands bytes) appends = ap (λ log. log.history) appends.4
+  failed_history fault.DiskFault appends = appends.2
+
+pub failed_writes : {D G : Type 0} (fault_count : D → ℕ) (old new : LaneValue D G) (entry : Entry)
+    (fault : AppendFault) → Appends fault_count old.log new.log entry (length (payload entry)) (Err fault)
+    → new.outbox ≡ old.outbox → Writes fault_count old new entry (fault_step fault)
+failed_writes fault_count old new entry (fault.Stopped count) appends same =
+    (appends.0, appends.1, (appends.2, same))
+failed_writes fault_count old new entry (fault.Full commands bytes) appends same =
+    (appends.0, appends.1, appends.2, appends.3, (appends.4, same))
+failed_writes fault_count old new entry fault.DiskFault appends same = record {
+  history = appends.2;
+  outbox = same;
+  marked = appends.3;
+  may = appends.0;
+  stopped = appends.1;
+  cause = appends.4;
+}
+
+pub fault_busy : (fault : AppendFault) → IsBusy (fault_step fault)
+fault_busy (fault.Stopped count) = tt
+fault_busy (fault.Full commands bytes) = tt
+fault_busy fault.DiskFault = tt
+
+pub fault_ready : (fault : AppendFault) → fault_step fault ≡ steps.NoMemory → ⊥
+fault_ready (fault.Stopped count) same = absurd (cc)
+fault_ready (fault.Full commands bytes) same = absurd (cc)
+fault_ready fault.DiskFault same = absurd (cc)

@@ -105,7 +105,7 @@ abbrev pub Looks : {D G : Type 0} → (D → ℕ) → LaneValue D G → LaneValu
 Looks fault_count old new today front later None step = (step ≡ steps.Done) × (new ≡ with_outbox old later)
 Looks fault_count old new today front later (Some command) step =
     Writes fault_count (with_outbox old (works_after step front later)) new (today, command) step
-    × (new.gateway ≡ old.gateway)
+    × (new.gateway ≡ old.gateway) × (new.own ≡ old.own)
 
 -- The gateway was asked for an order, and answered or failed.
 pub record IsAsked {G : Type 0} (asked : G → Option (List Asked)) (said : G → Option (List Saying))
@@ -114,16 +114,14 @@ pub record IsAsked {G : Type 0} (asked : G → Option (List Asked)) (said : G �
   pub heard : Notes (said old) (said_of_ask order answer) (said new)
   pub cause : HasCause (faults old) (faults new) answer
 
--- What an answer leaves, the entry being off the outbox: it accepts the settlement by that answer, if there
--- is one. No memory is missing any more.
-abbrev pub Settles : {D G : Type 0} → (D → ℕ) → LaneValue D G → LaneValue D G → ℕ → Option Command → Step
+-- What a step leaves that accepts a command, if there is one.
+abbrev pub Accepts : {D G : Type 0} → (D → ℕ) → LaneValue D G → LaneValue D G → ℕ → Option Command → Step
     → Type 0
-Settles fault_count old new today None step = (step ≡ steps.Done) × IsLeft old new
-Settles fault_count old new today (Some command) step =
-    Writes fault_count old new (today, command) step × (step ≡ steps.NoMemory → ⊥)
+Accepts fault_count old new today None step = (step ≡ steps.Done) × IsLeft old new
+Accepts fault_count old new today (Some command) step = Writes fault_count old new (today, command) step
 
--- The lane runs; its gateway was asked for the order of a payment, and by what it answered the payment is
--- settled.
+-- The lane runs; its gateway was asked for the order of a payment, which is off the outbox, and by what it
+-- answered the payment is settled. No memory is missing any more.
 pub record Asks {D G : Type 0} (fault_count : D → ℕ) (asked : G → Option (List Asked))
     (said : G → Option (List Saying)) (faults : G → ℕ) (old new : LaneValue D G) (today : ℕ)
     (account key : List ℕ) (later : List Work) (step : Step) : Type 0 where
@@ -132,7 +130,9 @@ pub record Asks {D G : Type 0} (fault_count : D → ℕ) (asked : G → Option (
   pub ordered : order_of (machine_of old) account key ≡ Some order
   pub answer : Result Told Failed
   pub heard : IsAsked asked said faults old.gateway new.gateway order answer
-  pub settled : Settles fault_count (with_outbox old later) new today (settled_by account key answer) step
+  pub own : new.own ≡ old.own ++ asked_of order ∷ []
+  pub settled : Accepts fault_count (with_outbox old later) new today (settled_by account key answer) step
+  pub ready : step ≡ steps.NoMemory → ⊥
 
 -- What the handling of an order leaves: a lane that has stopped asks nothing, and nor does one that finds no
 -- memory.

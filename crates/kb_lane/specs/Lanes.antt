@@ -1,27 +1,40 @@
 -- A lane: its log, what it is yet to do, and what it asked of its gateway.
-use Rattle.std.specs.Prelude.{ℕ, ◌≡◌, ◌≤◌, Bool, false, IsTrue, List}
+use Rattle.std.specs.Prelude.{ℕ, ◌≡◌, ◌≤◌, ◌⊎◌, ◌++◌, Bool, false, IsTrue, List, Option, length, take}
 use Rattle.kb_disk.specs.Moments.{AtEachMoment}
-use Rattle.kb_journal.specs.Format.{IsWithOrWithout}
-use Rattle.kb_log.specs.Entries.{Entry, payload, payloads}
+use Rattle.kb_journal.specs.Format.{IsWithOrWithout, StandsFor}
+use Rattle.kb_gateway.specs.declared.order.Asked.{Asked}
+use Rattle.kb_log.specs.Entries.{Entry, History, payload, payloads}
 use Rattle.kb_log.specs.Logs.{LogValue}
 use Rattle.kb_machine.specs.Machines.{MachineValue, no_machine}
 use Rattle.kb_machine.specs.Histories.{AreNewFrom, replay}
 use Rattle.kb_lane.specs.declared.work.Work.{Work}
+use Rattle.kb_lane.specs.Asking.{asks_in, AsksOnce, EndsWith}
 
--- A lane. Its accounts and texts are those that its log's history leads to.
+-- A lane: what it is yet to do, and what it asked its gateway for since it was opened. Its accounts and texts
+-- are those that its log's history leads to.
 pub record LaneValue (D G : Type 0) : Type 0 where
   pub log : LogValue D
   pub outbox : List Work
   pub gateway : G
+  pub own : List Asked
 
 -- the accounts and texts of a lane
 abbrev pub machine_of : {D G : Type 0} → LaneValue D G → MachineValue
 machine_of lane = replay lane.log.history
 
--- What always holds of a lane's machine: it is what the history leads to, in which each command was new.
-pub record IsLane {D G : Type 0} (machine : MachineValue) (lane : LaneValue D G) : Type 0 where
+-- those with which it was opened
+abbrev pub opened_of : {D G : Type 0} → LaneValue D G → MachineValue
+opened_of lane = replay (take lane.log.opened lane.log.history)
+
+-- What always holds of a lane. Its machine is what the history leads to, in which each command was new. What it
+-- asked and is yet to ask since it was opened, it asks once; and its gateway was asked this last, where it tells.
+pub record IsLane {D G : Type 0} (asked : G → Option (List Asked)) (machine : MachineValue)
+    (lane : LaneValue D G) : Type 0 where
   pub replayed : machine ≡ machine_of lane
   pub fresh : AreNewFrom no_machine lane.log.history
+  pub early : lane.log.opened ≤ length lane.log.history
+  pub once : AsksOnce (opened_of lane) (machine_of lane) lane.own (asks_in lane.outbox)
+  pub told : EndsWith (asked lane.gateway) lane.own
 
 -- What no call changes: which lane of how many it is, what it was opened with, and how honest its disk is.
 -- The disk's count doesn't fall.
@@ -42,3 +55,19 @@ StandsThroughout honest moment left_since old new entry = old.journal.stopped �
     → IsTrue (honest old.journal.disk)
     → AtEachMoment moment left_since old.journal.disk new.journal.disk
     (IsWithOrWithout old.journal.lanes old.journal.lane (payloads old.history) (payload entry))
+
+-- An image stands for the first commands of those that a log has and the one whose append failed: for at least so
+-- many.
+abbrev pub IsPart : {D : Type 0} → ℕ → LogValue D → List ℕ → Type 0
+IsPart least log image = (some : History) × (rest : History) × (log.history ++ log.failed ≡ some ++ rest)
+    × (least ≤ length some) × StandsFor log.journal.lanes log.journal.lane (payloads some) image
+
+-- At each moment from one state of a log to a later one, each image of an honest disk stands for the history so
+-- far, or for that and the command whose append failed: the disk is as it was, or no image has less than the
+-- earlier history.
+abbrev pub StandsWithin : {D : Type 0} → (D → Bool) → (D → ℕ) → (D → ℕ → List ℕ → Type 0) → LogValue D
+    → LogValue D → Type 0
+StandsWithin honest moment left_since old new = old.journal.stopped ≡ false
+    → IsTrue (honest old.journal.disk)
+    → (new.journal.disk ≡ old.journal.disk)
+    ⊎ AtEachMoment moment left_since old.journal.disk new.journal.disk (IsPart (length old.history) new)

@@ -1,6 +1,9 @@
 pub mod Works
+pub mod Asking
 pub mod Lanes
+pub mod Reading
 pub mod Replies
 pub mod Draining
+pub mod LookingUp
 pub mod Loads
 pub mod Private

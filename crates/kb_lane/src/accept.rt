@@ -11,6 +11,7 @@ ghost use Rattle.kb_reply.specs.declared.reply.LaneReply.TheVariants as replies;
 ghost use Rattle.kb_machine.specs.Judged.{New, is_new};
 ghost use Rattle.kb_machine.specs.Machines.{judged, reply_of, with_book, book_of, is_callers};
 ghost use Rattle.kb_machine.specs.Plans.{changed, change_reply, plan_judged, IsThere, Fits};
+ghost use Rattle.kb_lane.specs.Asking.{SettlesNone};
 ghost use Rattle.kb_lane.specs.Lanes.{StandsThroughout, StaysItself, machine_of};
 ghost use Rattle.kb_lane.specs.Works.{work_of};
 ghost use Rattle.kb_lane.specs.Replies.{IsReply, is_accepted, is_taken, Takes, IsMarked};
@@ -51,6 +52,7 @@ impl<D: Disk, G: Gateway + Drop> Lane<D, G> {
         requires planned { judged (machine_of self.old) today command.now
             ≡ New (change_reply change) (changed (machine_of self.old) change) }
         requires there { IsThere (machine_of self.old) change }
+        requires free { SettlesNone command.now self.old.outbox }
         ensures reply { IfOk result (λ reply. reply ≡ change_reply change) }
         ensures history { OnOk result (self.new.log.history
             ≡ self.old.log.history ++ (today, command.now) ∷ []) }
@@ -64,6 +66,7 @@ impl<D: Disk, G: Gateway + Drop> Lane<D, G> {
             → StandsThroughout D.honest D.moment D.left_since self.old.log self.new.log
             (today, command.now) }
         ensures gateway { self.new.gateway ≡ self.old.gateway }
+        ensures own { self.new.own ≡ self.old.own }
         ensures itself { StaysItself D.honest D.fault_count self.old self.new }
     {
         let Ok(bytes) = payload_of(alloc, today, command) else {
@@ -99,6 +102,7 @@ impl<D: Disk, G: Gateway + Drop> Lane<D, G> {
             ≡ New (replies.Accepted opened.answer)
             (with_book (machine_of self.old) opened.account opened.book) }
         requires absent { book_of (machine_of self.old) opened.account ≡ None }
+        requires free { SettlesNone command.now self.old.outbox }
         ensures reply { IfOk result (λ reply. reply ≡ replies.Accepted opened.answer) }
         ensures history { OnOk result (self.new.log.history
             ≡ self.old.log.history ++ (today, command.now) ∷ []) }
@@ -112,6 +116,7 @@ impl<D: Disk, G: Gateway + Drop> Lane<D, G> {
             → StandsThroughout D.honest D.moment D.left_since self.old.log self.new.log
             (today, command.now) }
         ensures gateway { self.new.gateway ≡ self.old.gateway }
+        ensures own { self.new.own ≡ self.old.own }
         ensures itself { StaysItself D.honest D.fault_count self.old self.new }
     {
         let Opened {
@@ -156,6 +161,7 @@ impl<D: Disk, G: Gateway + Drop> Lane<D, G> {
         requires planned { judged (machine_of self.old) today command.now
             ≡ plan_judged (machine_of self.old) planned }
         requires fits { Fits (machine_of self.old) planned }
+        requires free { SettlesNone command.now self.old.outbox }
         ensures reply { IfOk result (λ reply. reply_of (judged (machine_of self.old) today command.now)
             ≡ reply) }
         ensures accepted { IfOk result (λ reply. is_accepted reply ≡ true) }
@@ -169,6 +175,7 @@ impl<D: Disk, G: Gateway + Drop> Lane<D, G> {
         ensures moments { is_new (judged (machine_of self.old) today command.now) ≡ true → HasWritten result
             → StandsThroughout D.honest D.moment D.left_since self.old.log self.new.log (today, command.now) }
         ensures gateway { self.new.gateway ≡ self.old.gateway }
+        ensures own { self.new.own ≡ self.old.own }
         ensures itself { StaysItself D.honest D.fault_count self.old self.new }
     {
         match planned {
@@ -181,6 +188,7 @@ impl<D: Disk, G: Gateway + Drop> Lane<D, G> {
     /// Performs a command of a caller, or one of the lane's own.
     #[tactic(auto, using(crate::proofs::SaidReplies::accepted_reply, crate::proofs::SaidReplies::accepted_fault, crate::proofs::SaidReplies::accepted_stopped, crate::proofs::SaidReplies::accepted_full))]
     pub(crate) fn accept(&mut self, alloc: Global, today: Day, command: &Command) -> LaneReply
+        requires free { SettlesNone command.now self.old.outbox }
         ensures unrefused { is_new (judged (machine_of self.old) today command.now) ≡ true
             → (refusal : Refusal) → result ≡ replies.Refused refusal → ⊥ }
         ensures reply { IsReply (judged (machine_of self.old) today command.now) result }
@@ -200,6 +208,7 @@ impl<D: Disk, G: Gateway + Drop> Lane<D, G> {
             → (result ≡ replies.NoMemory → ⊥)
             → StandsThroughout D.honest D.moment D.left_since self.old.log self.new.log (today, command.now) }
         ensures gateway { self.new.gateway ≡ self.old.gateway }
+        ensures own { self.new.own ≡ self.old.own }
         ensures itself { StaysItself D.honest D.fault_count self.old self.new }
     {
         match self.machine.prepare(alloc, today, command) {
@@ -234,6 +243,7 @@ impl<D: Disk, G: Gateway + Drop> Lane<D, G> {
             → (result ≡ replies.NoMemory → ⊥)
             → StandsThroughout D.honest D.moment D.left_since self.old.log self.new.log (today, command.now) }
         ensures gateway { self.new.gateway ≡ self.old.gateway }
+        ensures own { self.new.own ≡ self.old.own }
         ensures itself { StaysItself D.honest D.fault_count self.old self.new }
     {
         self.accept(alloc, today, command)

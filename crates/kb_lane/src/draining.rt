@@ -1,17 +1,21 @@
 //! What a lane does by itself.
-ghost use Rattle.std.specs.Prelude.{◌≡◌, ◌↔◌, ◌<◌, ◌∷◌, ◌++◌, [], drop, ℕ, Some, List};
-ghost use Rattle.std.specs.Prelude.{true, false, length, IsTrue, IfSome};
+ghost use Rattle.std.specs.Prelude.{◌≡◌, ◌≤◌, ◌<◌, ◌^◌, ◌↔◌, ◌∷◌, ◌++◌, [], drop, ℕ, Some, Err, List};
+ghost use Rattle.std.specs.Prelude.{true, false, length, IsTrue, IsSome, IfSome, OnOk, OnErr};
 ghost use Rattle.std.specs.Option.{option_to_list};
+ghost use Rattle.kb_disk.specs.Moments.{AtEachMoment};
+ghost use Rattle.kb_journal.specs.Format.{IsWithOrWithout};
 ghost use Rattle.kb_log.specs.Entries.{Entry, payload, payloads};
+ghost use Rattle.kb_log.specs.Logs.{Appends};
 ghost use Rattle.kb_reply.specs.declared.step.Step.TheVariants as steps;
 ghost use Rattle.kb_machine.specs.Judged.{is_new};
 ghost use Rattle.kb_machine.specs.Machines.{judged};
+ghost use Rattle.kb_machine.specs.Plans.{changed};
 ghost use Rattle.kb_lane.specs.declared.work.Work.{Work as AnyWork};
 ghost use Rattle.kb_lane.specs.declared.work.Work.TheVariants as works;
+ghost use Rattle.kb_lane.specs.Asking.{SettlesNone};
 ghost use Rattle.kb_lane.specs.Lanes.{StandsThroughout, StaysItself, machine_of};
-ghost use Rattle.kb_lane.specs.Draining.{due_of, order_of, with_outbox, Looks, Asks};
+ghost use Rattle.kb_lane.specs.Draining.{due_of, order_of, Looks, Asks};
 ghost use Rattle.kb_lane.specs.Draining.{Orders, Writes, IsWritten};
-ghost use Rattle.kb_lane.specs.Works.{work_of};
 ghost use Rattle.kb_lane.specs.Private.Settlements.{IsReadyOf, AreReady, IsBusy, fault_step};
 
 use crate::settlement::{Settlement, Settlements};
@@ -21,7 +25,8 @@ use kb_days::{Day, Name};
 use kb_disk::Disk;
 use kb_gateway::{Gateway, Order, gateway_id};
 use kb_journal::AppendFault;
-use kb_machine::Change;
+use kb_log::Log;
+use kb_machine::{Change, Machine};
 use std::alloc::Global;
 
 impl<D: Disk, G: Gateway + Drop> Lane<D, G> {
@@ -80,6 +85,7 @@ impl<D: Disk, G: Gateway + Drop> Lane<D, G> {
 
     /// Looks at an account, and accepts the command that it asks for by itself.
     fn look(&mut self, alloc: Global, today: Day, account: Name) -> Step
+        requires first { works.Check account ∷ drop 1 self.old.outbox ≡ self.old.outbox }
         ensures busy { result ≡ steps.Idle → ⊥ }
         ensures looks { (later : List AnyWork) → self.old.outbox ≡ works.Check account ∷ later
             → Looks D.fault_count self.old self.new today (works.Check account) later
@@ -105,8 +111,10 @@ impl<D: Disk, G: Gateway + Drop> Lane<D, G> {
     #[tactic(auto, using(crate::proofs::Written::written_moments))]
     fn accept_own(&mut self, alloc: Global, today: Day, command: &Command) -> Step
         requires new { is_new (judged (machine_of self.old) today command.now) ≡ true }
+        requires free { SettlesNone command.now self.old.outbox }
         ensures writes { Writes D.fault_count self.old self.new (today, command.now) result }
         ensures gateway { self.new.gateway ≡ self.old.gateway }
+        ensures own { self.new.own ≡ self.old.own }
         ensures moments { (entry : Entry) → IsWritten self.old.log self.new.log entry
             → StandsThroughout D.honest D.moment D.left_since self.old.log self.new.log entry }
         ensures itself { StaysItself D.honest D.fault_count self.old self.new }
@@ -122,10 +130,11 @@ impl<D: Disk, G: Gateway + Drop> Lane<D, G> {
     }
 
     /// The command that an account asks for by itself: it is new.
-    #[tactic(auto, using(kb_attempts::proofs::DueNews::due_commands_are_new, kb_attempts::proofs::NamedBooks::replays_are_named))]
+    #[tactic(auto, using(kb_attempts::proofs::DueNews::due_commands_are_new, kb_attempts::proofs::NamedBooks::replays_are_named, crate::proofs::Freed::due_settles_none))]
     fn due(&self, today: Day, account: &Name) -> Option<Command>
         ensures due { result ≡ due_of (machine_of self.now) today account.now }
         ensures new { IfSome result (λ command. is_new (judged (machine_of self.now) today command) ≡ true) }
+        ensures free { IfSome result (λ command. (outbox : List AnyWork) → SettlesNone command outbox) }
     {
         match self.machine.books().get(account) {
             Some(book) => book.due_next(self.machine.world(), today),
@@ -135,7 +144,7 @@ impl<D: Disk, G: Gateway + Drop> Lane<D, G> {
 
     /// Asks the gateway for a payment, and settles it by the answer: first all memory is taken.
     fn order(&mut self, alloc: Global, today: Day, account: Name, key: Name) -> Step
-        requires waiting { 0 < length self.old.outbox }
+        requires first { works.Ask account key ∷ drop 1 self.old.outbox ≡ self.old.outbox }
         ensures busy { result ≡ steps.Idle → ⊥ }
         ensures orders { (later : List AnyWork) → self.old.outbox ≡ works.Ask account key ∷ later
             → Orders D.fault_count G.asked G.said G.faults self.old self.new today account key later result }
@@ -146,16 +155,15 @@ impl<D: Disk, G: Gateway + Drop> Lane<D, G> {
         if self.log.is_stopped() {
             return Step::Stopped(self.log.count());
         }
-        let Some(order) = self.order_of(account, key) else {
-            return Step::NoMemory;
-        };
+        let order = self.order_of(account, key);
         match Settlements::all(&self.machine, alloc, today, account, key) {
             Ok(ready) => self.ask(today, account, key, &order, ready),
             Err(_) => Step::NoMemory,
         }
     }
 
-    /// Asks the gateway for an order, and takes it off the outbox; then settles it by the answer.
+    /// Asks the gateway for an order, and takes it off the outbox; then settles it by the answer, for which it
+    /// takes no memory.
     #[tactic(auto, using(crate::proofs::Choices::all_four))]
     fn ask(
         &mut self,
@@ -165,7 +173,7 @@ impl<D: Disk, G: Gateway + Drop> Lane<D, G> {
         order: &Order,
         ready: Settlements,
     ) -> Step
-        requires waiting { 0 < length self.old.outbox }
+        requires first { works.Ask account key ∷ drop 1 self.old.outbox ≡ self.old.outbox }
         requires running { self.old.log.journal.stopped ≡ false }
         requires ordered { order_of (machine_of self.old) account key ≡ Some order.now }
         requires ready { AreReady (machine_of self.old) today account key ready }
@@ -177,63 +185,88 @@ impl<D: Disk, G: Gateway + Drop> Lane<D, G> {
         ensures itself { StaysItself D.honest D.fault_count self.old self.new }
     {
         let answer = self.gateway.ask(order);
-        match ready.chosen(answer) {
-            Some(settlement) => self.settle(today, account, settlement),
-            None => {
-                self.outbox.pop_front();
-                Step::Done
-            }
-        }
-    }
-
-    /// Takes an order off the outbox, and accepts its settlement. It takes no memory.
-    fn settle(&mut self, today: Day, account: Name, settlement: Settlement) -> Step
-        requires waiting { 0 < length self.old.outbox }
-        requires ready { IsReadyOf (machine_of self.old) today settlement.command settlement }
-        requires check { work_of (today, settlement.command) ≡ works.Check account ∷ [] }
-        ensures busy { IsBusy result }
-        ensures writes { (front : AnyWork) (later : List AnyWork) → self.old.outbox ≡ front ∷ later
-            → Writes D.fault_count (with_outbox self.old later) self.new (today, settlement.command) result }
-        ensures gateway { self.new.gateway ≡ self.old.gateway }
-        ensures moments { (entry : Entry) → IsWritten self.old.log self.new.log entry
-            → StandsThroughout D.honest D.moment D.left_since self.old.log self.new.log entry }
-        ensures itself { StaysItself D.honest D.fault_count self.old self.new }
-    {
-        let Settlement {
-            command,
-            change,
-            bytes,
-        } = settlement;
+        self.own.note(&account, &key);
         self.outbox.pop_front();
-        match self.log.append(today, &command, &bytes) {
+        let Some(settlement) = ready.chosen(answer) else {
+            return Step::Done;
+        };
+        match write(&mut self.machine, &mut self.log, today, settlement) {
             Ok(()) => {
                 self.outbox.push_back_reserved(Work::Check(account));
-                self.machine.commit(change);
                 Step::Done
             }
-            Err(fault) => stopped_by(change, fault),
+            Err(fault) => stopped_by(fault),
         }
     }
 
-    /// The order for an attempt of an account, if it is there.
-    fn order_of(&self, account: Name, key: Name) -> Option<Order>
-        ensures { result ≡ order_of (machine_of self.now) account key }
+    /// The order for an attempt of an account.
+    fn order_of(&self, account: Name, key: Name) -> Order
+        requires there { IsSome (order_of (machine_of self.now) account key) }
+        ensures { order_of (machine_of self.now) account key ≡ Some result }
     {
-        let book = self.machine.books().get(&account)?;
-        let attempt = book.payments().attempt(key)?;
-        Some(Order {
+        let Some(book) = self.machine.books().get(&account) else {
+            unreachable!()
+        };
+        let Some(attempt) = book.payments().attempt(key) else {
+            unreachable!()
+        };
+        Order {
             account,
             key,
             id: gateway_id(account, key),
             kind: attempt.kind,
             amount: attempt.amount,
             currency: book.currency(),
-        })
+        }
     }
 }
 
-/// Lets a change go that isn't written down, and tells the step that ends so.
-fn stopped_by(_change: Change, fault: AppendFault) -> Step
+/// Writes a settlement down, and takes it in. It takes no memory.
+fn write<D: Disk>(
+    machine: &mut Machine,
+    log: &mut Log<D>,
+    today: Day,
+    settlement: Settlement,
+) -> Result<(), AppendFault>
+    requires ready { IsReadyOf machine.old today settlement.command settlement }
+    ensures outcome { Appends D.fault_count log.old log.new (today, settlement.command)
+        (length (payload (today, settlement.command))) result }
+    ensures few { OnOk result (length log.old.history < 2 ^ 32) }
+    ensures machine { OnOk result (machine.new ≡ changed machine.old settlement.change) }
+    ensures unchanged { OnErr result (machine.new ≡ machine.old) }
+    ensures moments { log.old.journal.stopped ≡ false → IsTrue (D.honest log.old.journal.disk)
+        → AtEachMoment D.moment D.left_since log.old.journal.disk log.new.journal.disk
+        (IsWithOrWithout log.old.journal.lanes log.old.journal.lane (payloads log.old.history)
+        (payload (today, settlement.command))) }
+    ensures same { (log.new.opened ≡ log.old.opened) × (log.new.faults ≡ log.old.faults) }
+    ensures place { (log.new.journal.lanes ≡ log.old.journal.lanes)
+        × (log.new.journal.lane ≡ log.old.journal.lane) }
+    ensures honesty { D.honest log.new.journal.disk ≡ D.honest log.old.journal.disk }
+    ensures rising { D.fault_count log.old.journal.disk ≤ D.fault_count log.new.journal.disk }
+{
+    let Settlement {
+        command,
+        change,
+        bytes,
+    } = settlement;
+    match log.append(today, &command, &bytes) {
+        Ok(()) => {
+            machine.commit(change);
+            Ok(())
+        }
+        Err(fault) => unchanged(change, fault),
+    }
+}
+
+/// Lets a change go that isn't written down.
+fn unchanged(_change: Change, fault: AppendFault) -> Result<(), AppendFault>
+    ensures { result ≡ Err fault }
+{
+    Err(fault)
+}
+
+/// The step that ends with an append that failed.
+fn stopped_by(fault: AppendFault) -> Step
     ensures { result ≡ fault_step fault }
 {
     match fault {

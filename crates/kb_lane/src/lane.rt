@@ -4,13 +4,15 @@ ghost use Rattle.std.specs.Option.{option_copied};
 ghost use Rattle.kb_journal.specs.Keeping.{Holds, RefusesToCreate};
 ghost use Rattle.kb_log.specs.Entries.{payloads};
 ghost use Rattle.kb_machine.specs.Machines.{book_of};
-ghost use Rattle.kb_lane.specs.Lanes.{machine_of};
+ghost use Rattle.kb_lane.specs.Asking.{WasAskedOnce};
+ghost use Rattle.kb_lane.specs.Lanes.{machine_of, opened_of};
 
 use crate::Work;
 use kb_account::{Book, World};
 use kb_days::Name;
 use kb_disk::Disk;
 use kb_gateway::Gateway;
+use kb_history::History;
 use kb_journal::CreateFault;
 use kb_log::Log;
 use kb_machine::Machine;
@@ -25,10 +27,14 @@ pub struct Lane<D: Disk, G: Gateway + Drop> {
     pub(crate) log: Log<D>,
     pub(crate) outbox: VecDeque<Work>,
     pub(crate) gateway: G,
+    /// The accounts and keys of the payments that the gateway was asked for since the lane was opened.
+    pub(crate) own: History<Name, Name>,
 }
 
 impl<D: Disk, G: Gateway + Drop> Model for Lane<D, G> {
+    ghost use Rattle.std.specs.Prelude.{map};
     ghost use Rattle.std.specs.VecDeque.{deque_items};
+    ghost use Rattle.kb_lane.specs.Asking.{asked_for};
     ghost use Rattle.kb_lane.specs.Lanes.{LaneValue, IsLane};
 
     ghost Value = { LaneValue D G };
@@ -37,12 +43,14 @@ impl<D: Disk, G: Gateway + Drop> Model for Lane<D, G> {
       log = lane.log;
       outbox = deque_items lane.outbox;
       gateway = lane.gateway;
+      own = map asked_for lane.own;
     } };
 
-    ghost invariant = { λ lane. IsLane {D = D} {G = G} lane.machine (record {
+    ghost invariant = { λ lane. IsLane {D = D} {G = G} G.asked lane.machine (record {
       log = lane.log;
       outbox = deque_items lane.outbox;
       gateway = lane.gateway;
+      own = map asked_for lane.own;
     }) };
 }
 
@@ -69,6 +77,7 @@ impl<D: Disk, G: Gateway + Drop> Lane<D, G> {
         ensures calm { IfOk result (λ made. D.fault_count made.log.journal.disk ≡ D.fault_count disk) }
         ensures faults { IfOk result (λ made. made.log.faults ≡ D.fault_count disk) }
         ensures outbox { IfOk result (λ made. made.outbox ≡ []) }
+        ensures own { IfOk result (λ made. made.own ≡ []) }
         ensures gateway { IfOk result (λ made. made.gateway ≡ gateway) }
         ensures refused { IfErr result (λ refused.
             RefusesToCreate D.honest D.seen D.images D.fault_count disk refused.0 refused.1) }
@@ -80,15 +89,18 @@ impl<D: Disk, G: Gateway + Drop> Lane<D, G> {
                 log,
                 outbox: VecDeque::new(alloc),
                 gateway,
+                own: History::new(),
             }),
             Err((fault, disk)) => Err((fault, disk, gateway)),
         }
     }
 
-    /// The disk and the gateway, as they are.
+    /// The disk and the gateway, as they are. If the gateway tells what it was asked, it was asked for no payment
+    /// twice, provided that before the lane was opened it was asked once each, for attempts that the lane had then.
     pub fn into_parts(self) -> (D, G)
         ensures disk { result.0 ≡ self.log.journal.disk }
         ensures gateway { result.1 ≡ self.gateway }
+        ensures once { WasAskedOnce (opened_of self) (G.asked self.gateway) self.own }
     {
         (self.log.into_disk(), self.gateway)
     }

@@ -11,6 +11,7 @@ mod accept;
 mod draining;
 mod lane;
 mod load;
+mod reading;
 mod replayed;
 mod settlement;
 mod work;

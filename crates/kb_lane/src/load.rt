@@ -10,6 +10,7 @@ use crate::Lane;
 use crate::replayed::{Replayed, replay_all};
 use kb_disk::Disk;
 use kb_gateway::Gateway;
+use kb_history::History;
 use kb_journal::{Journal, LoadFault};
 use kb_log::Log;
 use std::alloc::Global;
@@ -33,6 +34,7 @@ impl<D: Disk, G: Gateway + Drop> Lane<D, G> {
         ensures place { IfOk result (λ loaded. loaded.log.journal.lane ≡ lane) }
         ensures faults { IfOk result (λ loaded. loaded.log.faults ≡ D.fault_count loaded.log.journal.disk) }
         ensures outbox { IfOk result (λ loaded. loaded.outbox ≡ []) }
+        ensures own { IfOk result (λ loaded. loaded.own ≡ []) }
         ensures gateway { IfOk result (λ loaded. loaded.gateway ≡ gateway) }
         ensures unwritten { IfOk result (λ loaded. IsUnwritten D.honest D.images D.moment D.left_since
             D.fault_count disk loaded.log.journal.disk) }
@@ -74,6 +76,7 @@ impl<D: Disk, G: Gateway + Drop> Lane<D, G> {
           };
           outbox = [];
           gateway = gateway;
+          own = [];
         } }
     {
         let (machine, history) = past.into_parts();
@@ -82,6 +85,7 @@ impl<D: Disk, G: Gateway + Drop> Lane<D, G> {
             log: Log::opened(journal, history, count),
             outbox: VecDeque::new(alloc),
             gateway,
+            own: History::new(),
         }
     }
 }

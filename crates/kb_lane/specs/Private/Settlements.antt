@@ -7,6 +7,7 @@ use Rattle.kb_gateway.specs.declared.told.Told.{Told}
 use Rattle.kb_gateway.specs.declared.told.Told.TheVariants as told
 use Rattle.kb_codec.specs.declared.command.Command.{Command}
 use Rattle.kb_codec.specs.declared.command.Command.TheVariants as kinds
+use Rattle.kb_codec.specs.Commands.{IsDay}
 use Rattle.kb_journal.specs.Format.{IsSized}
 use Rattle.kb_log.specs.Entries.{payload}
 use Rattle.kb_machine.specs.Judged.{New}
@@ -26,6 +27,7 @@ pub record IsReadyOf (machine : MachineValue) (today : ℕ) (command : Command) 
   pub there : IsThere machine ready.change
   pub bytes : ready.bytes.items ≡ payload (today, command)
   pub sized : IsSized ready.bytes.items
+  pub dated : IsDay today
 
 abbrev pub IsReady : MachineValue → ℕ → List ℕ → List ℕ → Status → Settlement → Type 0
 IsReady machine today account key status ready = IsReadyOf machine today
