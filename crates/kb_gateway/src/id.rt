@@ -24,5 +24,5 @@ pub fn gateway_id(account: Name, key: Name) -> Uuid
 fn named(text: &[u8]) -> Uuid
     ensures { result ≡ uuid_of text.now }
 {
-    Uuid::new_v5(&Uuid::NAMESPACE_DNS, text)
+    Uuid::new_v5(&Uuid::NAMESPACE_URL, text)
 }

@@ -35,22 +35,22 @@ ask_line order = line (codes "ASK " ++ id_text order.id ++ codes " " ++ kind_wor
 abbrev pub look_line : Order → List ℕ
 look_line order = line (codes "LOOK " ++ id_text order.id)
 
--- the bytes 109, 232, 170, .. and 182 are the id 6de8aacc-207b-5557-9280-e2ca5ea9e0b6
+-- the bytes 65, 144, 87, .. and 44 are the id 419057e9-e213-5cbe-8f20-63536fe96a2c
 abbrev some_order : Order
 some_order = record {
   account = codes "a1";
   key = codes "p1";
-  id = 109 ∷ 232 ∷ 170 ∷ 204 ∷ 32 ∷ 123 ∷ 85 ∷ 87 ∷ 146 ∷ 128 ∷ 226 ∷ 202 ∷ 94 ∷ 169 ∷ 224 ∷ 182 ∷ [];
+  id = 65 ∷ 144 ∷ 87 ∷ 233 ∷ 226 ∷ 19 ∷ 92 ∷ 190 ∷ 143 ∷ 32 ∷ 99 ∷ 83 ∷ 111 ∷ 233 ∷ 106 ∷ 44 ∷ [];
   kind = Refund;
   amount = 1250;
   currency = codes "USD";
 }
 
-asks : ask_line some_order ≡ line (codes "ASK 6de8aacc-207b-5557-9280-e2ca5ea9e0b6 REFUND 1250 USD")
+asks : ask_line some_order ≡ line (codes "ASK 419057e9-e213-5cbe-8f20-63536fe96a2c REFUND 1250 USD")
 unfolding digits uuid_on_literals
 asks = refl
 
-looks_up : look_line some_order ≡ line (codes "LOOK 6de8aacc-207b-5557-9280-e2ca5ea9e0b6")
+looks_up : look_line some_order ≡ line (codes "LOOK 419057e9-e213-5cbe-8f20-63536fe96a2c")
 unfolding uuid_on_literals
 looks_up = refl
 

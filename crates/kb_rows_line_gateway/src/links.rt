@@ -96,19 +96,19 @@ const ORDERS: [(Kind, u64, &[u8], &[u8]); 3] = [
         Kind::Purchase,
         0,
         b"EUR",
-        b"ASK 6de8aacc-207b-5557-9280-e2ca5ea9e0b6 PURCHASE 0 EUR\n",
+        b"ASK 419057e9-e213-5cbe-8f20-63536fe96a2c PURCHASE 0 EUR\n",
     ),
     (
         Kind::Refund,
         1_000_000_000_000,
         b"USD",
-        b"ASK 6de8aacc-207b-5557-9280-e2ca5ea9e0b6 REFUND 1000000000000 USD\n",
+        b"ASK 419057e9-e213-5cbe-8f20-63536fe96a2c REFUND 1000000000000 USD\n",
     ),
     (
         Kind::Chargeback,
         18_446_744_073_709_551_615,
         b"JPY",
-        b"ASK 6de8aacc-207b-5557-9280-e2ca5ea9e0b6 CHARGEBACK 18446744073709551615 JPY\n",
+        b"ASK 419057e9-e213-5cbe-8f20-63536fe96a2c CHARGEBACK 18446744073709551615 JPY\n",
     ),
 ];
 

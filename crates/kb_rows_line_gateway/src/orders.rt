@@ -7,9 +7,9 @@ use kb_payment::Kind;
 use std::test::Fail;
 
 /// The line that asks for the order of 1250 dollars, and the one that asks what became of it.
-pub const ASK: &[u8] = b"ASK 6de8aacc-207b-5557-9280-e2ca5ea9e0b6 PURCHASE 1250 USD\n";
+pub const ASK: &[u8] = b"ASK 419057e9-e213-5cbe-8f20-63536fe96a2c PURCHASE 1250 USD\n";
 
-pub const LOOK: &[u8] = b"LOOK 6de8aacc-207b-5557-9280-e2ca5ea9e0b6\n";
+pub const LOOK: &[u8] = b"LOOK 419057e9-e213-5cbe-8f20-63536fe96a2c\n";
 
 /// An order on the payment p1 of the account a1.
 pub fn order_of(kind: Kind, amount: u64, currency: &[u8]) -> Result<Order, Fail> {

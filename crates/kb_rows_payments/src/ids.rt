@@ -6,13 +6,13 @@ use std::test::Fail;
 
 /// Accounts, payment keys, and ids that another library made.
 const IDS: [(&str, &str, &str); 3] = [
-    ("a1", "p1", "6de8aacc-207b-5557-9280-e2ca5ea9e0b6"),
+    ("a1", "p1", "419057e9-e213-5cbe-8f20-63536fe96a2c"),
     (
         "a1",
         "auto-1-2024-03-01",
-        "add50896-5c7f-53d5-9b24-ca4194f75c10",
+        "f4571f19-756a-5561-875e-cdc3b2a8946f",
     ),
-    ("a", "1p1", "d95ca8cb-98b7-52cf-96f7-e09a87e1e55d"),
+    ("a", "1p1", "bf7df7b4-e86a-5083-b945-10c61bae3f14"),
 ];
 
 #[test]
