@@ -1,16 +1,8 @@
--- Which lane an account belongs to: its UUID as a number, modulo the number of lanes. The UUID is one of
--- version 5, made of a name in the namespace of URLs, 6ba7b811-9dad-11d1-80b4-00c04fd430c8.
-use Rattle.std.specs.Prelude.{ℕ, List, [], ◌∷◌, ◌++◌, ◌%◌, take, codes, ◌≡◌, refl}
+-- Which lane an account belongs to: its UUID as a number, modulo the number of lanes.
+use Rattle.std.specs.Prelude.{ℕ, List, [], ◌∷◌, ◌++◌, ◌%◌, codes, ◌≡◌, refl}
 use Rattle.std.specs.Int.{w128, from_be_bytes}
-use Rattle.uuid.specs.Parts.{with_version, with_variant}
-use Rattle.uuid.specs.Uuid.{namespace_url}
-use Rattle.uuid.specs.declared.Version.TheVariants.{Sha1}
-use Rattle.uuid.specs.declared.Variant.TheVariants.{RFC4122}
+use Rattle.kb_gateway.specs.GatewayIds.{uuid_of}
 use Rattle.sha1.specs.Sha1.{first_words, schedule, rounds, compress, hash_after, digest_bytes, sha1}
-
--- the UUID of a text, as its 16 bytes
-unfoldable pub uuid_of : List ℕ → List ℕ
-uuid_of text = with_version (with_variant (take 16 (sha1 (namespace_url ++ text))) RFC4122) Sha1
 
 -- the text by which an account is named
 abbrev pub account_text : List ℕ → List ℕ

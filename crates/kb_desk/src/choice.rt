@@ -1,9 +1,11 @@
 //! The lane of an account.
 ghost use Rattle.std.specs.Prelude.{◌≡◌, ◌≤◌, ◌<◌};
-ghost use Rattle.kb_desk.specs.Lanes.{uuid_of, account_text, lane_of};
+ghost use Rattle.kb_gateway.specs.GatewayIds.{uuid_of};
+ghost use Rattle.kb_desk.specs.Lanes.{account_text, lane_of};
 
 use arrayvec::ArrayVec;
 use kb_days::Name;
+use kb_gateway::uuid_of;
 use uuid::Uuid;
 
 /// The lane of an account among so many, numbered from 0.
@@ -23,13 +25,5 @@ fn account_uuid(account: Name) -> Uuid
     let mut text = ArrayVec::<u8, 75>::new();
     text.try_extend_from_slice(b"kb:account:").unwrap();
     text.try_extend_from_slice(account.as_bytes()).unwrap();
-    named(&text)
-}
-
-/// The UUID of a text.
-#[tactic(auto, unfolding(crate::specs::Lanes::uuid_of))]
-fn named(text: &[u8]) -> Uuid
-    ensures { result ≡ uuid_of text.now }
-{
-    Uuid::new_v5(&Uuid::NAMESPACE_URL, text)
+    uuid_of(&text)
 }

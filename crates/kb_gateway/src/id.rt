@@ -1,4 +1,4 @@
-//! The id by which a gateway knows a payment.
+//! The id by which a gateway knows a payment, and the UUID of a text.
 ghost use Rattle.std.specs.Prelude.{◌≡◌};
 ghost use Rattle.kb_gateway.specs.GatewayIds.{uuid_of, payment_text};
 
@@ -16,12 +16,12 @@ pub fn gateway_id(account: Name, key: Name) -> Uuid
     text.try_extend_from_slice(account.as_bytes()).unwrap();
     text.try_extend_from_slice(b":").unwrap();
     text.try_extend_from_slice(key.as_bytes()).unwrap();
-    named(&text)
+    uuid_of(&text)
 }
 
-/// The UUID of a text.
+/// The UUID of version 5 of a text, in the namespace of URLs.
 #[tactic(auto, unfolding(crate::specs::GatewayIds::uuid_of))]
-fn named(text: &[u8]) -> Uuid
+pub fn uuid_of(text: &[u8]) -> Uuid
     ensures { result ≡ uuid_of text.now }
 {
     Uuid::new_v5(&Uuid::NAMESPACE_URL, text)

@@ -15,7 +15,7 @@ mod order;
 mod told;
 
 pub use gateway::Gateway;
-pub use id::gateway_id;
+pub use id::{gateway_id, uuid_of};
 pub use list_gateway::ListGateway;
 pub use list_market::ListMarket;
 pub use market::Market;
