@@ -61,9 +61,9 @@ some-there : {X : Type 0} (found : Option X) → IsSome found → found ≡ None
 some-there None there none = true≢false (sym there)
 some-there (Some one) there none = cc
 
-begun-there : (found : Option Attempt) → IsBegun found → IsSome found
-begun-there None begun = absurd begun
-begun-there (Some attempt) begun = refl
+pub begun_there : (found : Option Attempt) → IsBegun found → IsSome found
+begun_there None begun = absurd begun
+begun_there (Some attempt) begun = refl
 
 -- an attempt that isn't there before is none of those that are
 module _ (machine : MachineValue) (asked : Asked) (none : attempt_asked machine asked ≡ None) where
@@ -107,7 +107,7 @@ module _ (machine : MachineValue) (today : ℕ) (command : Command) (keyed : Are
   begun-stays : (one : Asked) → IsBegun (attempt_asked machine one) → settles command one.account one.key ≡ false
       → IsBegun (attempt_asked (entry_after machine (today, command)) one)
   begun-stays one begun free =
-      let found = attempt-there (attempt_asked machine one) (begun-there (attempt_asked machine one) begun) in
+      let found = attempt-there (attempt_asked machine one) (begun_there (attempt_asked machine one) begun) in
       let here : IsBegun (Some found.0) = subst IsBegun found.1 begun in
       subst IsBegun
       (sym (attempts_stay machine today command one.account one.key found.0 keyed last found.1 free)) here
@@ -133,7 +133,7 @@ module _ (machine : MachineValue) (today : ℕ) (command : Command) (keyed : Are
         let there : HaveAttempts machine (own ++ waiting) =
         All-append (λ (one : Asked). IsSome (attempt_asked machine one)) own waiting once.asked
         (All-weaker (λ (one : Asked). IsBegun (attempt_asked machine one))
-        (λ (one : Asked). IsSome (attempt_asked machine one)) (λ one held. begun-there (attempt_asked machine one) held) waiting once.waiting) in
+        (λ (one : Asked). IsSome (attempt_asked machine one)) (λ one held. begun_there (attempt_asked machine one) held) waiting once.waiting) in
         let same : own ++ (waiting ++ asked ∷ []) ≡ (own ++ waiting) ++ asked ∷ [] = sym (append_assoc own waiting (asked ∷ [])) in
         record {
           apart = rw same (all_pairs_push (λ (one other : Asked). one ≡ other → ⊥) (own ++ waiting) asked once.apart
@@ -175,7 +175,7 @@ asked_once first later own waiting asked once =
     record {
       apart = rw same once.apart;
       asked = All-push (λ (one : Asked). IsSome (attempt_asked later one)) own asked once.asked
-          (begun-there (attempt_asked later asked) (All-head (λ (one : Asked). IsBegun (attempt_asked later one)) asked waiting once.waiting));
+          (begun_there (attempt_asked later asked) (All-head (λ (one : Asked). IsBegun (attempt_asked later one)) asked waiting once.waiting));
       waiting = All-tail (λ (one : Asked). IsBegun (attempt_asked later one)) asked waiting once.waiting;
       since = rw same once.since;
       stay = once.stay;

@@ -25,7 +25,7 @@ use Rattle.kb_lane.specs.Lanes.{LaneValue, IsLane, machine_of, opened_of}
 use Rattle.kb_lane.specs.Draining.{order_of}
 use Rattle.kb_lane.proofs.Settling.{order_there}
 use Rattle.kb_lane.proofs.Asking.{asks_grow, asks_append, none_asked, ends_anyhow, asked_once, ends_note}
-use Rattle.kb_lane.proofs.Asking.{settles_apart, first_apart}
+use Rattle.kb_lane.proofs.Asking.{settles_apart, first_apart, begun_there}
 
 -- the first commands are the same with one more at the end
 take-more : (count : ℕ) (history : History) (more : History) → count ≤ length history
@@ -134,5 +134,6 @@ module _ {D G : Type 0} (told : G → Option (List Asked)) (machine : MachineVal
       → IsSome (order_of (machine_of old) account key)
   lane_orders account key later front =
       order_there (machine_of old) account key
+      (begun_there (attempt_asked (machine_of old) (asked_for (account, key)))
       (All-head (λ (one : Asked). IsBegun (attempt_asked (machine_of old) one)) (asked_for (account, key))
-      (asks_in later) (rw front at kept.once).waiting)
+      (asks_in later) (rw front at kept.once).waiting))

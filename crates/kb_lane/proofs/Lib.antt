@@ -3,10 +3,12 @@ mod Choices
 mod Freed
 mod Grows
 mod Kept
+mod LookingUp
 mod Pairs
 mod Places
 mod SaidReplies
 mod Settling
 mod Stuck
+mod ToLookUp
 mod Within
 mod Written

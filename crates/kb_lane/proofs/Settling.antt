@@ -27,7 +27,7 @@ use Rattle.kb_lane.specs.declared.work.Work.{Work}
 use Rattle.kb_lane.specs.declared.work.Work.TheVariants.{Check}
 use Rattle.kb_lane.specs.Lanes.{LaneValue}
 use Rattle.kb_attempts.specs.Attempts.{attempt_in}
-use Rattle.kb_lane.specs.Asking.{asked_for, attempt_asked, IsBegun, SettlesNone}
+use Rattle.kb_lane.specs.Asking.{asked_for, attempt_asked, SettlesNone}
 use Rattle.kb_lane.specs.Works.{work_of}
 use Rattle.kb_lane.specs.Draining.{order_for, order_in, order_of, settled_by, with_outbox, Writes, Accepts, Asks, Orders}
 use Rattle.kb_lane.specs.Private.Settlements.{IsChosen, IsReadyOf, IsBusy, fault_step}
@@ -136,18 +136,18 @@ order_asked machine account key order is = by_book (book_of machine account) is
 
 -- a payment with an attempt has an order
 pub order_there : (machine : MachineValue) (account key : List ℕ)
-    → IsBegun (attempt_asked machine (asked_for (account, key))) → IsSome (order_of machine account key)
-order_there machine account key begun = by_book (book_of machine account) begun
+    → IsSome (attempt_asked machine (asked_for (account, key))) → IsSome (order_of machine account key)
+order_there machine account key there = by_book (book_of machine account) there
   where
-    by_attempt : (book : BookValue) (found : Option Attempt) → IsBegun found
+    by_attempt : (book : BookValue) (found : Option Attempt) → IsSome found
         → IsSome (order_for account key book found)
-    by_attempt book None begun = absurd begun
-    by_attempt book (Some attempt) begun = refl
+    by_attempt book None there = absurd (true≢false (sym there))
+    by_attempt book (Some attempt) there = refl
 
-    by_book : (found : Option BookValue) → IsBegun (attempt_in key found)
+    by_book : (found : Option BookValue) → IsSome (attempt_in key found)
         → IsSome (order_in account key found)
-    by_book None begun = absurd begun
-    by_book (Some book) begun = by_attempt book (attempt_of book.payments key) begun
+    by_book None there = absurd (true≢false (sym there))
+    by_book (Some book) there = by_attempt book (attempt_of book.payments key) there
 
 -- the settlement by an answer settles none of the payments that are left
 pub settled_frees : (account key : List ℕ) (answer : Result Told Failed) (command : Command) (later : List Work)

@@ -1,3 +1,4 @@
 pub mod Unwritten
 pub mod Replays
 pub mod Settlements
+pub mod Looking

@@ -109,7 +109,7 @@ impl<D: Disk, G: Gateway + Drop> Lane<D, G> {
 
     /// Accepts a command of the lane's own, which is new.
     #[tactic(auto, using(crate::proofs::Written::written_moments))]
-    fn accept_own(&mut self, alloc: Global, today: Day, command: &Command) -> Step
+    pub(crate) fn accept_own(&mut self, alloc: Global, today: Day, command: &Command) -> Step
         requires new { is_new (judged (machine_of self.old) today command.now) ≡ true }
         requires free { SettlesNone command.now self.old.outbox }
         ensures writes { Writes D.fault_count self.old self.new (today, command.now) result }
@@ -200,7 +200,7 @@ impl<D: Disk, G: Gateway + Drop> Lane<D, G> {
     }
 
     /// The order for an attempt of an account.
-    fn order_of(&self, account: Name, key: Name) -> Order
+    pub(crate) fn order_of(&self, account: Name, key: Name) -> Order
         requires there { IsSome (order_of (machine_of self.now) account key) }
         ensures { order_of (machine_of self.now) account key ≡ Some result }
     {

@@ -9,6 +9,7 @@
 
 mod accept;
 mod draining;
+mod janitor;
 mod lane;
 mod load;
 mod reading;
