@@ -1,24 +1,22 @@
 -- A payment is asked for once: what a new command, and an order that is taken off, do to that.
-use Rattle.std.proofs.Common.{◌≡◌, ℕ, suc, ◌≤◌, ◌<◌, arith, Bool, true, false, true≢false, ◌&&◌, bytes_eq, List, [], ◌∷◌, ◌++◌}
-use Rattle.std.proofs.Common.{length, get_or, All, AllPairs, IsSome, is_some, Option, Some, None, refl, sym, ap, subst, ◌∙◌, inl, inr}
+use Rattle.std.proofs.Common.{◌≡◌, ℕ, ◌≤◌, ◌<◌, arith, true, false, true≢false, ◌&&◌, bytes_eq, List, [], ◌∷◌, ◌++◌}
+use Rattle.std.proofs.Common.{length, get_or, All, IsSome, is_some, Option, Some, None, refl, sym, ap, subst, ◌∙◌, inl, inr}
 use Rattle.std.proofs.lemmas.Bool.{cases_Bool, and_parts}
 use Rattle.std.proofs.lemmas.List.{append_assoc, append-nil, get_or_append_left, length-append}
-use Rattle.std.proofs.lemmas.List.Elements.{All-append, All-push, All-head, All-tail, All-weaker, All-nil, All-cons}
+use Rattle.std.proofs.lemmas.List.Elements.{All-append, All-push, All-head, All-tail, All-weaker, All-nil}
 use Rattle.std.proofs.lemmas.List.Quantifiers.{all_pairs_push}
 use Rattle.std.proofs.lemmas.Slice.Eq.{bytes_eq-Decides}
 use Rattle.kb_days.specs.Calendar.{last_day}
 use Rattle.kb_payment.specs.declared.attempt.Attempt.{Attempt}
 use Rattle.kb_payment.specs.declared.attempt.Status.{Status}
-use Rattle.kb_payment.specs.declared.attempt.Status.TheVariants.{Unknown}
 use Rattle.kb_gateway.specs.declared.order.Asked.{Asked}
 use Rattle.kb_gateway.specs.Answers.{Notes}
 use Rattle.kb_codec.specs.declared.command.Command.{Command}
 use Rattle.kb_codec.specs.declared.command.Command.TheVariants as kinds
-use Rattle.kb_codec.specs.declared.command.Settle.{Settle}
 use Rattle.kb_machine.specs.Judged.{is_new}
 use Rattle.kb_machine.specs.Machines.{MachineValue, judged, account_of}
 use Rattle.kb_machine.specs.Histories.{entry_after}
-use Rattle.kb_attempts.specs.Attempts.{attempt_at, begun_key, settles}
+use Rattle.kb_attempts.specs.Attempts.{begun_key, settles}
 use Rattle.kb_attempts.specs.Keys.{AreKeyed}
 use Rattle.kb_attempts.proofs.StayingAttempts.{attempts_stay}
 use Rattle.kb_attempts.proofs.SettledAttempts.{settlements_settle}
@@ -198,8 +196,10 @@ was_asked_once first later own waiting asked once all before told is apart there
 
     own-apart : AreApart own
     own-apart i j d below inside =
-        rw (sym (get_or_append_left own waiting d i (omega (arith, below, inside))),
-        sym (get_or_append_left own waiting d j inside))
+        rw (
+          sym (get_or_append_left own waiting d i (omega (arith, below, inside))),
+          sym (get_or_append_left own waiting d j inside),
+        )
         (once.apart i j d below (omega (arith, inside, length-append own waiting)))
 
 -- what a gateway was asked ends with one more
@@ -239,8 +239,10 @@ settles_other account key status one other =
     same : (bytes_eq one.account account && bytes_eq one.key key) ≡ true → asked_for (account, key) ≡ one
     same both =
         let parts = and_parts (bytes_eq one.account account) (bytes_eq one.key key) both in
-        rw (sym ((bytes_eq-Decides one.account account).0 parts.0),
-        sym ((bytes_eq-Decides one.key key).0 parts.1)) refl
+        rw (
+          sym ((bytes_eq-Decides one.account account).0 parts.0),
+          sym ((bytes_eq-Decides one.key key).0 parts.1),
+        ) refl
 
 pub settles_apart : (account key : List ℕ) (waiting : List Asked) (status : Status)
     → All (λ (one : Asked). asked_for (account, key) ≡ one → ⊥) waiting

@@ -1,7 +1,6 @@
 -- Commands that settle no payment.
-use Rattle.std.proofs.Common.{◌≡◌, ℕ, Bool, true, false, true≢false, List, Option, Some, None, if◌then◌else◌, refl, sym, ap, ◌∙◌}
+use Rattle.std.proofs.Common.{◌≡◌, ℕ, Bool, true, false, true≢false, List, Option, Some, None, if◌then◌else◌, refl, sym}
 use Rattle.std.proofs.lemmas.Option.{none-some}
-use Rattle.kb_gateway.specs.declared.order.Asked.{Asked}
 use Rattle.kb_codec.specs.declared.command.Command.{Command}
 use Rattle.kb_codec.specs.declared.command.Command.TheVariants as kinds
 use Rattle.kb_book.specs.Worlds.{WorldValue}
@@ -9,7 +8,7 @@ use Rattle.kb_book.specs.Books.{BookValue}
 use Rattle.kb_book.specs.BlockRows.{has_all_states}
 use Rattle.kb_book.specs.Inner.{is_transition_due, invoice_due}
 use Rattle.kb_laws.specs.NextDues.{transition_of, payment_of, next_due}
-use Rattle.kb_machine.specs.Machines.{MachineValue, is_callers}
+use Rattle.kb_machine.specs.Machines.{is_callers}
 use Rattle.kb_attempts.specs.Attempts.{settles}
 use Rattle.kb_lane.specs.declared.work.Work.{Work}
 use Rattle.kb_lane.specs.Asking.{SettlesNone}

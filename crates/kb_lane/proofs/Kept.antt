@@ -1,5 +1,5 @@
 -- What always holds of a lane, after a command.
-use Rattle.std.proofs.Common.{◌≡◌, ℕ, ◌≤◌, ◌<◌, ◌+◌, ◌^◌, arith, List, [], ◌∷◌, ◌++◌, length, take, map, Option, IsSome, refl, sym, ap, subst, ◌∙◌}
+use Rattle.std.proofs.Common.{◌≡◌, ℕ, ◌≤◌, ◌<◌, ◌^◌, arith, List, [], ◌∷◌, ◌++◌, length, take, map, Option, IsSome, refl, sym, ap, subst, ◌∙◌}
 use Rattle.std.proofs.lemmas.List.{length-append, map-append}
 use Rattle.std.proofs.lemmas.Grind.{common_steps}
 use Rattle.std.proofs.lemmas.List.Elements.{All-head}
@@ -10,9 +10,9 @@ use Rattle.kb_payment.specs.declared.attempt.Status.{Status}
 use Rattle.kb_codec.specs.declared.command.Command.{Command}
 use Rattle.kb_codec.specs.declared.command.Command.TheVariants as kinds
 use Rattle.kb_reply.specs.declared.reply.LaneReply.{LaneReply}
-use Rattle.kb_log.specs.Entries.{Entry, History}
+use Rattle.kb_log.specs.Entries.{History}
 use Rattle.kb_log.specs.Logs.{LogValue}
-use Rattle.kb_machine.specs.Judged.{New, is_new}
+use Rattle.kb_machine.specs.Judged.{New}
 use Rattle.kb_machine.specs.Machines.{MachineValue, no_machine, judged}
 use Rattle.kb_machine.specs.Histories.{replay, entry_after, AreNewFrom}
 use Rattle.kb_machine.proofs.Replays.{replay_new, fresh_new}
@@ -20,7 +20,7 @@ use Rattle.kb_attempts.proofs.KeyedBooks.{replays_are_keyed}
 use Rattle.kb_lane.specs.declared.work.Work.{Work}
 use Rattle.kb_lane.specs.Works.{work_of}
 use Rattle.kb_lane.specs.declared.work.Work.TheVariants.{Ask, Check}
-use Rattle.kb_lane.specs.Asking.{asked_for, asks_in, attempt_asked, IsBegun, AsksOnce, EndsWith, SettlesNone}
+use Rattle.kb_lane.specs.Asking.{asked_for, asks_in, attempt_asked, IsBegun, SettlesNone}
 use Rattle.kb_lane.specs.Lanes.{LaneValue, IsLane, machine_of, opened_of}
 use Rattle.kb_lane.specs.Draining.{order_of}
 use Rattle.kb_lane.proofs.Settling.{order_there}

@@ -1,13 +1,12 @@
 -- What a look-up leaves: the other payments are as they were.
-use Rattle.std.proofs.Common.{◌≡◌, ℕ, Bool, true, false, true≢false, not, ◌&&◌, bytes_eq, List, [], ◌∷◌, ◌++◌, filter, map}
-use Rattle.std.proofs.Common.{◌<◌, ◌≤◌, ◌+◌, zero, suc, drop, take, arith, flat_map, length, get_or, All, IsSome, Option, Some, None, Result, Ok, Err, refl, sym, ap, subst, ◌∙◌, inl, inr}
+use Rattle.std.proofs.Common.{◌≡◌, ℕ, Bool, true, false, true≢false, not, List, [], ◌∷◌, ◌++◌, filter, map}
+use Rattle.std.proofs.Common.{◌<◌, ◌≤◌, ◌+◌, zero, suc, drop, take, arith, flat_map, length, get_or, All, Option, Some, None, Result, Ok, Err, refl, sym, ap, subst, ◌∙◌, inl, inr}
 use Rattle.std.proofs.Common.{if◌then◌else◌}
 use Rattle.std.specs.List.{list_any}
-use Rattle.std.proofs.lemmas.Bool.{cases_Bool, and_parts}
+use Rattle.std.proofs.lemmas.Bool.{cases_Bool}
 use Rattle.std.proofs.lemmas.Option.{none-some}
 use Rattle.std.proofs.lemmas.List.{append-nil, append_assoc, take-append-drop}
 use Rattle.std.proofs.lemmas.List.Elements.{filter-append, All-head, All-tail}
-use Rattle.std.proofs.lemmas.Slice.Eq.{bytes_eq-Decides}
 use Rattle.kb_base.specs.declared.fault.Failed.{Failed}
 use Rattle.kb_payment.specs.Attempts.{is_open}
 use Rattle.kb_payment.specs.declared.attempt.Attempt.{Attempt}
@@ -21,7 +20,6 @@ use Rattle.kb_codec.specs.declared.command.Settle.{Settle}
 use Rattle.kb_payment.specs.PaymentSums.{open_keys}
 use Rattle.kb_book.specs.Books.{BookValue}
 use Rattle.kb_book.specs.PaymentRows.{same_status}
-use Rattle.kb_reply.specs.declared.reply.LaneReply.{LaneReply}
 use Rattle.kb_reply.specs.declared.step.Step.{Step}
 use Rattle.kb_reply.specs.declared.step.Step.TheVariants as steps
 use Rattle.kb_log.specs.Entries.{Entry, History}
@@ -29,8 +27,7 @@ use Rattle.kb_machine.specs.Judged.{Judged, New, Again, Refused, is_new, after_j
 use Rattle.kb_machine.specs.Machines.{MachineValue, judged, book_of}
 use Rattle.kb_machine.specs.Histories.{replay, entry_after}
 use Rattle.kb_machine.proofs.Replays.{replay_new}
-use Rattle.kb_attempts.specs.Attempts.{settles}
-use Rattle.kb_attempts.proofs.SettledAttempts.{settlements_leave_others, settlements_are_new}
+use Rattle.kb_attempts.proofs.SettledAttempts.{settlements_leave_others}
 use Rattle.kb_lane.specs.Asking.{asked_for, asks_in, attempt_asked, AreApart}
 use Rattle.kb_lane.specs.Lanes.{LaneValue, StaysItself, machine_of}
 use Rattle.kb_lane.specs.Replies.{Takes}
@@ -77,11 +74,14 @@ module _ {D G : Type 0} (old new : LaneValue D G) (today : ℕ) (payment : Asked
   the-settlement = record { account = payment.account; payment = payment.key; status = status }
 
   -- a settlement leaves other payments as they were
-  pub others_stay : Takes old new (today, kinds.Settle (record {
-    account = payment.account;
-    payment = payment.key;
-    status = status;
-  })) → is_new (judged (machine_of old) today (kinds.Settle (record {
+  pub others_stay : Takes old new (
+    today,
+    kinds.Settle (record {
+      account = payment.account;
+      payment = payment.key;
+      status = status;
+    }),
+  ) → is_new (judged (machine_of old) today (kinds.Settle (record {
     account = payment.account;
     payment = payment.key;
     status = status;
@@ -94,11 +94,14 @@ module _ {D G : Type 0} (old new : LaneValue D G) (today : ℕ) (payment : Asked
       (settles_other payment.account payment.key status one other)
 
   -- and what is yet to be asked for
-  pub asks_stay : Takes old new (today, kinds.Settle (record {
-    account = payment.account;
-    payment = payment.key;
-    status = status;
-  })) → asks_in new.outbox ≡ asks_in old.outbox
+  pub asks_stay : Takes old new (
+    today,
+    kinds.Settle (record {
+      account = payment.account;
+      payment = payment.key;
+      status = status;
+    }),
+  ) → asks_in new.outbox ≡ asks_in old.outbox
   asks_stay takes = ap asks_in takes.outbox ∙ asks_append old.outbox _ ∙ append-nil (asks_in old.outbox)
 
 -- news are another status
@@ -168,6 +171,14 @@ module _ {L A : Type 0} (Handles : L → L → A → Step → Type 0) where
       let further : place + 1 ≡ suc place = omega arith in
       subst (λ left. EachDone Handles old new left step) (sym (next_item items place item inside is))
       (inr (between, done, subst (λ from. EachDone Handles between new (drop from items) step) further later))
+
+  -- and where it isn't done, it is the last
+  pub each_ends : (old new : L) (items : List A) (place : ℕ) (item : A) → place < length items
+      → item ≡ get_or items place item → (step : Step) → (step ≡ steps.Done → ⊥) → Handles old new item step
+      → EachDone Handles old new (drop place items) step
+  each_ends old new items place item inside is step ended done =
+      subst (λ left. EachDone Handles old new left step) (sym (next_item items place item inside is))
+      (inl (ended, done))
 
 module _ (payments : List Asked) (place : ℕ) (item : Asked) (inside : place < length payments)
     (is : item ≡ get_or payments place item) (before : MachineValue)

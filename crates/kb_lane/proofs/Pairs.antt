@@ -1,5 +1,5 @@
 -- Pairs of two lists, one behind the other.
-use Rattle.std.proofs.Common.{ℕ, suc, ◌≡◌, ◌<◌, arith, List, [], ◌∷◌, ◌++◌, length, All, AllPairs}
+use Rattle.std.proofs.Common.{suc, arith, List, [], ◌∷◌, ◌++◌, All, AllPairs}
 use Rattle.std.proofs.lemmas.List.Elements.{All-append}
 use Rattle.std.proofs.lemmas.List.Kept.{AllPairs-cons}
 

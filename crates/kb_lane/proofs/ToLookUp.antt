@@ -1,12 +1,12 @@
 -- The payments that are to be looked up are open, none of them is there twice, and the outbox has none of them.
-use Rattle.std.proofs.Common.{◌≡◌, ℕ, suc, arith, Bool, true, false, true≢false, not, ◌&&◌, ◌||◌, bytes_eq, List, [], ◌∷◌, ◌++◌, length}
-use Rattle.std.proofs.Common.{map, filter, flat_map, All, AllPairs, Option, Some, None, refl, sym, ap, subst, ◌∙◌, inl, inr}
+use Rattle.std.proofs.Common.{◌≡◌, ℕ, arith, Bool, true, false, true≢false, not, ◌||◌, bytes_eq, List, [], ◌∷◌}
+use Rattle.std.proofs.Common.{map, flat_map, All, AllPairs, Option, Some, None, refl, sym, ap, ◌∙◌}
 use Rattle.std.specs.List.{list_any}
 use Rattle.std.proofs.lemmas.Bool.{and_from}
 use Rattle.std.proofs.lemmas.List.Elements.{All-nil, All-cons, All-head, All-tail, All-append, All-map, All-filter, filter_passes}
 use Rattle.std.proofs.lemmas.List.Kept.{AllPairs-filter, AllPairs-cons}
 use Rattle.std.proofs.lemmas.Slice.Eq.{bytes_eq-Decides}
-use Rattle.kb_payment.specs.PaymentSums.{PaymentsValue, open_keys, IsOpenKey, attempt_of}
+use Rattle.kb_payment.specs.PaymentSums.{open_keys, IsOpenKey}
 use Rattle.kb_gateway.specs.declared.order.Asked.{Asked}
 use Rattle.kb_book.specs.Books.{BookValue}
 use Rattle.kb_machine.specs.Machines.{MachineValue, book_of}

@@ -1,5 +1,5 @@
 -- A lane: its log, what it is yet to do, and what it asked of its gateway.
-use Rattle.std.specs.Prelude.{ℕ, ◌≡◌, ◌≤◌, ◌⊎◌, ◌++◌, Bool, false, IsTrue, List, Option, length, take}
+use Rattle.std.specs.Prelude.{ℕ, ◌≡◌, ◌≤◌, ◌⊎◌, [], ◌∷◌, ◌++◌, Bool, false, IsTrue, List, Option, length, take}
 use Rattle.kb_disk.specs.Moments.{AtEachMoment}
 use Rattle.kb_journal.specs.Format.{IsWithOrWithout, StandsFor}
 use Rattle.kb_gateway.specs.declared.order.Asked.{Asked}
@@ -56,15 +56,31 @@ StandsThroughout honest moment left_since old new entry = old.journal.stopped �
     → AtEachMoment moment left_since old.journal.disk new.journal.disk
     (IsWithOrWithout old.journal.lanes old.journal.lane (payloads old.history) (payload entry))
 
--- An image stands for the first commands of those that a log has and the one whose append failed: for at least so
--- many.
-abbrev pub IsPart : {D : Type 0} → ℕ → LogValue D → List ℕ → Type 0
-IsPart least log image = (some : History) × (rest : History) × (log.history ++ log.failed ≡ some ++ rest)
+-- a history goes on from another
+abbrev pub GoesOn : History → History → Type 0
+GoesOn old new = (more : History) × (new ≡ old ++ more)
+
+-- An image stands for the first commands of a log, at least so many.
+abbrev pub IsPast : {D : Type 0} → ℕ → LogValue D → List ℕ → Type 0
+IsPast least log image = (some : History) × (rest : History) × (log.history ≡ some ++ rest)
     × (least ≤ length some) × StandsFor log.journal.lanes log.journal.lane (payloads some) image
 
--- At each moment from one state of a log to a later one, each image of an honest disk stands for the history so
--- far, or for that and the command whose append failed: the disk is as it was, or no image has less than the
--- earlier history.
+-- It does, or stands for all of them and the one whose append failed.
+abbrev pub IsPart : {D : Type 0} → ℕ → LogValue D → List ℕ → Type 0
+IsPart least log image = IsPast least log image
+    ⊎ ((entry : Entry) × (log.failed ≡ entry ∷ [])
+    × StandsFor log.journal.lanes log.journal.lane (payloads log.history ++ payload entry ∷ []) image)
+
+-- At each moment from one state of a log to a later one, if no append had failed before, an honest disk is as it
+-- was, or each image stands for the earlier history or for that and the first of the commands that came since.
+abbrev pub StandsPast : {D : Type 0} → (D → Bool) → (D → ℕ) → (D → ℕ → List ℕ → Type 0) → LogValue D
+    → LogValue D → Type 0
+StandsPast honest moment left_since old new = old.journal.stopped ≡ false
+    → IsTrue (honest old.journal.disk)
+    → (new.journal.disk ≡ old.journal.disk)
+    ⊎ AtEachMoment moment left_since old.journal.disk new.journal.disk (IsPast (length old.history) new)
+
+-- So it does, but at the end the append of a command may have failed.
 abbrev pub StandsWithin : {D : Type 0} → (D → Bool) → (D → ℕ) → (D → ℕ → List ℕ → Type 0) → LogValue D
     → LogValue D → Type 0
 StandsWithin honest moment left_since old new = old.journal.stopped ≡ false

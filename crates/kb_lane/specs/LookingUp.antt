@@ -1,5 +1,5 @@
 -- How a lane looks up what became of its open payments.
-use Rattle.std.specs.Prelude.{ℕ, ◌≡◌, not, ◌&&◌, Bool, true, false, bytes_eq, List, [], ◌∷◌, ◌++◌, map, filter, length}
+use Rattle.std.specs.Prelude.{ℕ, ◌≡◌, not, ◌&&◌, Bool, true, false, bytes_eq, List, [], ◌∷◌, map, filter, length}
 use Rattle.std.specs.Prelude.{Option, None, Some, Result, Ok, Err, if◌then◌else◌, option_map, codes, refl, flat_map, ◌⊎◌}
 use Rattle.std.specs.List.{list_any}
 use Rattle.kb_base.specs.declared.fault.Failed.{Failed}

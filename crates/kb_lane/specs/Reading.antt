@@ -1,5 +1,5 @@
 -- What a lane answers to queries.
-use Rattle.std.specs.Prelude.{ℕ, ◌≡◌, List, Option, Some, None, Result, Ok, Err, codes, refl}
+use Rattle.std.specs.Prelude.{ℕ, ◌≡◌, List, Option, Some, None, Result, Err, codes, refl}
 use Rattle.kb_days.specs.Dates.{march}
 use Rattle.kb_book.specs.Books.{BookValue}
 use Rattle.kb_book.specs.Worlds.{WorldValue}

@@ -1,16 +1,15 @@
 //! Payments whose outcome isn't known, looked up.
-ghost use Rattle.std.specs.Prelude.{◌≡◌, ◌⊎◌, ◌++◌, true, List, ℕ, None, Some, IfOk, OnOk, if◌then◌else◌};
+ghost use Rattle.std.specs.Prelude.{◌≡◌, ◌⊎◌, ◌++◌, true, false, List, ℕ, None, Some, IfOk, OnOk, if◌then◌else◌};
 ghost use Rattle.std.specs.List.{list_any};
 ghost use Rattle.kb_codec.specs.declared.command.Command.TheVariants as kinds;
 ghost use Rattle.kb_payment.specs.declared.attempt.Attempt.{Attempt as AnyAttempt};
 ghost use Rattle.kb_gateway.specs.declared.order.Asked.{Asked as AnyAsked};
-ghost use Rattle.kb_log.specs.Entries.{Entry};
 ghost use Rattle.kb_reply.specs.declared.step.Step.TheVariants as steps;
 ghost use Rattle.kb_machine.specs.Judged.{is_new};
 ghost use Rattle.kb_machine.specs.Machines.{judged};
 ghost use Rattle.kb_lane.specs.Asking.{asks_in, attempt_asked, SettlesNone};
-ghost use Rattle.kb_lane.specs.Lanes.{StandsThroughout, StaysItself, machine_of};
-ghost use Rattle.kb_lane.specs.Draining.{IsWritten, Writes};
+ghost use Rattle.kb_lane.specs.Lanes.{StandsPast, StandsWithin, StaysItself, GoesOn, machine_of};
+ghost use Rattle.kb_lane.specs.Draining.{Writes};
 ghost use Rattle.kb_lane.specs.LookingUp.{EachDone, Looked, to_look_up, is_ask, news, seen_status};
 ghost use Rattle.kb_book.specs.PaymentRows.{same_status};
 ghost use Rattle.kb_lane.specs.Private.Looking.{IsOpen, IsBeside, AreToLookUp, AreOpenIn, left_in, left_of};
@@ -36,6 +35,7 @@ impl<D: Disk, G: Gateway + Drop> Lane<D, G> {
             (to_look_up self.old) result ⊎ ((result ≡ steps.NoMemory) × (self.new ≡ self.old)) }
         ensures silent { G.asked self.new.gateway ≡ G.asked self.old.gateway }
         ensures own { self.new.own ≡ self.old.own }
+        ensures moments { StandsWithin D.honest D.moment D.left_since self.old.log self.new.log }
         ensures itself { StaysItself D.honest D.fault_count self.old self.new }
     {
         match self.to_look_up(alloc) {
@@ -52,6 +52,7 @@ impl<D: Disk, G: Gateway + Drop> Lane<D, G> {
             payments.now result }
         ensures silent { G.asked self.new.gateway ≡ G.asked self.old.gateway }
         ensures own { self.new.own ≡ self.old.own }
+        ensures moments { StandsWithin D.honest D.moment D.left_since self.old.log self.new.log }
         ensures itself { StaysItself D.honest D.fault_count self.old self.new }
     {
         for payment in payments {
@@ -74,8 +75,11 @@ impl<D: Disk, G: Gateway + Drop> Lane<D, G> {
         ensures asks { result ≡ steps.Done → asks_in self.new.outbox ≡ asks_in self.old.outbox }
         ensures silent { G.asked self.new.gateway ≡ G.asked self.old.gateway }
         ensures own { self.new.own ≡ self.old.own }
-        ensures moments { (entry : Entry) → IsWritten self.old.log self.new.log entry
-            → StandsThroughout D.honest D.moment D.left_since self.old.log self.new.log entry }
+        ensures past { result ≡ steps.Done
+            → StandsPast D.honest D.moment D.left_since self.old.log self.new.log }
+        ensures within { StandsWithin D.honest D.moment D.left_since self.old.log self.new.log }
+        ensures further { GoesOn self.old.log.history self.new.log.history }
+        ensures runs { result ≡ steps.Done → self.new.log.journal.stopped ≡ false }
         ensures itself { StaysItself D.honest D.fault_count self.old self.new }
     {
         if self.log.is_stopped() {
@@ -102,15 +106,21 @@ impl<D: Disk, G: Gateway + Drop> Lane<D, G> {
           payment = payment.key;
           status = status;
         })) self.old.outbox }
-        ensures writes { Writes D.fault_count self.old self.new (today, kinds.Settle (record {
-          account = payment.account;
-          payment = payment.key;
-          status = status;
-        })) result }
+        ensures writes { Writes D.fault_count self.old self.new (
+          today,
+          kinds.Settle (record {
+            account = payment.account;
+            payment = payment.key;
+            status = status;
+          }),
+        ) result }
         ensures gateway { self.new.gateway ≡ self.old.gateway }
         ensures own { self.new.own ≡ self.old.own }
-        ensures moments { (entry : Entry) → IsWritten self.old.log self.new.log entry
-            → StandsThroughout D.honest D.moment D.left_since self.old.log self.new.log entry }
+        ensures past { result ≡ steps.Done
+            → StandsPast D.honest D.moment D.left_since self.old.log self.new.log }
+        ensures within { StandsWithin D.honest D.moment D.left_since self.old.log self.new.log }
+        ensures further { GoesOn self.old.log.history self.new.log.history }
+        ensures runs { result ≡ steps.Done → self.new.log.journal.stopped ≡ false }
         ensures itself { StaysItself D.honest D.fault_count self.old self.new }
     {
         let command = Command::Settle(Settle {
@@ -151,7 +161,12 @@ impl<D: Disk, G: Gateway + Drop> Lane<D, G> {
 
     /// Adds the payments of an account that are to be looked up.
     #[tactic(auto, using(crate::proofs::ToLookUp::none_open_in, crate::proofs::ToLookUp::are_open_in, crate::proofs::LookingUp::left_none, crate::proofs::LookingUp::left_found))]
-    fn add_open(&self, alloc: Global, payments: &mut Vec<Asked>, account: Name) -> Result<(), NoMemory>
+    fn add_open(
+        &self,
+        alloc: Global,
+        payments: &mut Vec<Asked>,
+        account: Name,
+    ) -> Result<(), NoMemory>
         ensures added { OnOk result (payments.new.items ≡ payments.old.items ++ left_in self.now account) }
         ensures them { OnOk result (AreOpenIn (machine_of self.now) account) }
     {
@@ -163,14 +178,16 @@ impl<D: Disk, G: Gateway + Drop> Lane<D, G> {
     }
 
     /// Adds the payments of an account under these keys, but for those that the outbox is yet to ask for.
-    fn add_left(&self, payments: &mut Vec<Asked>, account: Name, keys: &[Name]) -> Result<(), NoMemory>
+    fn add_left(
+        &self,
+        payments: &mut Vec<Asked>,
+        account: Name,
+        keys: &[Name],
+    ) -> Result<(), NoMemory>
         ensures { OnOk result (payments.new.items ≡ payments.old.items ++ left_of self.now account keys.now) }
     {
         for key in keys {
-            let payment = Asked {
-                account,
-                key: *key,
-            };
+            let payment = Asked { account, key: *key };
             self.add_one(payments, payment)?;
         }
         Ok(())
@@ -228,5 +245,9 @@ fn seen_status(seen: Seen) -> Status
 fn other_than(present: Status, status: Status) -> Option<Status>
     ensures { result ≡ (if same_status present status then None else Some status) }
 {
-    if present == status { None } else { Some(status) }
+    if present == status {
+        None
+    } else {
+        Some(status)
+    }
 }

@@ -1,4 +1,4 @@
-use Rattle.std.proofs.Common.{◌≡◌, ◌++◌, drop, refl}
+use Rattle.std.proofs.Common.{refl}
 use Rattle.kb_lane.specs.Asking.{asked_for}
 use Rattle.kb_lane.specs.Private.Looking.{left_one, left_of}
 use Rattle.kb_lane.proofs.LookingUp.{each_on}

@@ -1,21 +1,15 @@
-use Rattle.std.proofs.Common.{◌≡◌, refl, sym, ap, subst, ◌∙◌, ◌++◌, ◌∷◌, [], deque_items, drop, map, length, Some, None, Ok, Err}
+use Rattle.std.proofs.Common.{◌≡◌, refl, sym, ap, subst, ◌∙◌, ◌++◌, ◌∷◌, [], deque_items, drop, map, Some, None, Ok, Err}
 use Rattle.kb_codec.specs.declared.command.Command.TheVariants as kinds
-use Rattle.kb_gateway.specs.Answers.{Notes, asked_of}
-use Rattle.kb_log.specs.Entries.{payload}
 use Rattle.kb_machine.specs.Histories.{replay}
 use Rattle.kb_machine.specs.Plans.{changed, change_reply}
-use Rattle.kb_reply.specs.declared.step.Step.{Step}
-use Rattle.kb_reply.specs.declared.step.Step.TheVariants as steps
 use Rattle.kb_lane.specs.Asking.{asked_for, SettlesNone}
 use Rattle.kb_lane.specs.Lanes.{machine_of, IsLane}
-use Rattle.kb_lane.specs.Draining.{settled_by, with_outbox, Writes}
-use Rattle.kb_lane.specs.Works.{work_of}
-use Rattle.kb_lane.specs.Private.Settlements.{IsBusy, IsReadyOf, fault_step}
-use Rattle.kb_lane.specs.declared.work.Work.{Work}
+use Rattle.kb_lane.specs.Draining.{settled_by}
+use Rattle.kb_lane.specs.Private.Settlements.{IsReadyOf}
 use Rattle.kb_lane.specs.declared.work.Work.TheVariants as works
 use Rattle.kb_lane.proofs.Kept.{lane_asked, lane_frees, lane_grows, lane_stays, own_noted}
 use Rattle.kb_lane.proofs.Settling.{chosen_command, unchosen_command, chosen_ready, settled_check, order_asked}
-use Rattle.kb_lane.proofs.Settling.{settled_frees, failed_history, failed_writes, fault_ready, fault_busy}
+use Rattle.kb_lane.proofs.Settling.{settled_frees, failed_history, failed_writes, fault_ready}
 use Rattle.kb_lane.proofs.Written.{appended_stands}
 use Rattle.kb_lane.proofs.lane.Lane.ask.Goals as goal
 

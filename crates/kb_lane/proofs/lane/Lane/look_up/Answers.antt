@@ -1,6 +1,6 @@
-use Rattle.std.proofs.Common.{◌≡◌, false, deque_items, map, Some, None, refl, sym, ap, subst, ◌∙◌}
+use Rattle.std.proofs.Common.{◌≡◌, [], false, deque_items, map, Some, None, refl, sym, ap, subst, ◌∙◌}
+use Rattle.std.proofs.lemmas.List.{append-nil}
 use Rattle.kb_book.specs.PaymentRows.{same_status}
-use Rattle.kb_codec.specs.declared.command.Command.TheVariants as kinds
 use Rattle.kb_attempts.proofs.SettledAttempts.{settlements_are_new}
 use Rattle.kb_lane.specs.Asking.{asked_for, asks_in, attempt_asked}
 use Rattle.kb_lane.specs.Lanes.{machine_of}
@@ -8,6 +8,7 @@ use Rattle.kb_lane.specs.LookingUp.{news}
 use Rattle.kb_lane.proofs.Asking.{settles_apart}
 use Rattle.kb_lane.proofs.Settling.{writes_from}
 use Rattle.kb_lane.proofs.LookingUp.{open_there, news_differ, looks_looked, done_takes, others_stay, asks_stay}
+use Rattle.kb_lane.proofs.Within.{past_none, within_past}
 use Rattle.kb_lane.proofs.lane.Lane.look_up.Goals as goal
 
 pub settle-requires-clause-new : goal.settle-requires-clause-new
@@ -70,16 +71,13 @@ returns-in-Some-clause-others g c =
 
 pub returns-in-Some-clause-asks : goal.returns-in-Some-clause-asks
 returns-in-Some-clause-asks g c = rw (← c.self.view_is) (λ done. asks_stay (record {
-      log = c.self.inside.log;
-      outbox = deque_items c.self.inside.outbox;
-      gateway = c.look_up-answer.new.self;
-      own = map asked_for c.self.inside.own;
-    }) c.settle.new.self c.args.today
+  log = c.self.inside.log;
+  outbox = deque_items c.self.inside.outbox;
+  gateway = c.look_up-answer.new.self;
+  own = map asked_for c.self.inside.own;
+}) c.settle.new.self c.args.today
     c.args.payment c.in-Some.status (done_takes g.D.Disk.fault_count _ c.settle.new.self _ c.settle.result
     c.settle.ensures.writes done))
-
-pub returns-in-Some-clause-moments : goal.returns-in-Some-clause-moments
-returns-in-Some-clause-moments g c = rw (← c.self.view_is) c.settle.ensures.moments
 
 pub returns-in-None-clause-looked : goal.returns-in-None-clause-looked
 returns-in-None-clause-looked g c =
@@ -103,3 +101,30 @@ returns-in-None-clause-looked g c =
       own = refl;
       settled = rw told (refl, (refl, refl));
     })
+
+pub returns-in-Some-clause-past : goal.returns-in-Some-clause-past
+returns-in-Some-clause-past g c = rw (← c.self.view_is) c.settle.ensures.past
+
+pub returns-in-Some-clause-within : goal.returns-in-Some-clause-within
+returns-in-Some-clause-within g c = rw (← c.self.view_is) c.settle.ensures.within
+
+pub returns-in-Some-clause-further : goal.returns-in-Some-clause-further
+returns-in-Some-clause-further g c = rw (← c.self.view_is) c.settle.ensures.further
+
+pub returns-in-Some-clause-runs : goal.returns-in-Some-clause-runs
+returns-in-Some-clause-runs g c = c.settle.ensures.runs
+
+pub returns-in-None-clause-past : goal.returns-in-None-clause-past
+returns-in-None-clause-past g c = rw (← c.self.view_is)
+    (λ done. past_none g.D.Disk.honest g.D.Disk.moment g.D.Disk.left_since c.self.inside.log c.self.inside.log refl)
+
+pub returns-in-None-clause-within : goal.returns-in-None-clause-within
+returns-in-None-clause-within g c = rw (← c.self.view_is) (within_past g.D.Disk.honest g.D.Disk.moment g.D.Disk.left_since
+    c.self.inside.log c.self.inside.log (past_none g.D.Disk.honest g.D.Disk.moment g.D.Disk.left_since c.self.inside.log
+    c.self.inside.log refl))
+
+pub returns-in-None-clause-further : goal.returns-in-None-clause-further
+returns-in-None-clause-further g c = rw (← c.self.view_is) ([], sym (append-nil c.self.inside.log.history))
+
+pub returns-in-None-clause-runs : goal.returns-in-None-clause-runs
+returns-in-None-clause-runs g c = λ done. sym c.is_stopped.ensures ∙ c.if-is_stopped.false

@@ -1,4 +1,4 @@
-use Rattle.std.proofs.Common.{ap, sym, ◌∙◌}
+use Rattle.std.proofs.Common.{ap, ◌∙◌}
 use Rattle.kb_reply.specs.declared.reply.LaneReply.TheVariants as replies
 use Rattle.kb_machine.specs.Histories.{replay}
 use Rattle.kb_machine.specs.Machines.{with_book}

@@ -1,4 +1,4 @@
-use Rattle.std.proofs.Common.{ap, sym, ◌∙◌}
+use Rattle.std.proofs.Common.{ap, ◌∙◌}
 use Rattle.kb_machine.specs.Histories.{replay}
 use Rattle.kb_machine.specs.Plans.{changed, change_reply}
 use Rattle.kb_lane.proofs.Kept.{lane_grows}
