@@ -11,7 +11,7 @@ use std::process::Abort;
 use std::test::Fail;
 
 /// A charge of 500 is paid, and the payment asked for again under its key.
-const PAID: &str = "\
+pub(crate) const PAID: &str = "\
 #3 a1 k1 =USD #1 #0 > ok 1
 #12 a1 k2 #0 #0 #0 #0 #0 #0 #1 #244 > ok 2
 #14 a1 k3 p1 #0 #0 #0 #1 #0 > ok 3
@@ -71,7 +71,7 @@ fn payments_that_are_asked_for(rt: HostRuntime) -> Result<(), Fail> {
 /// Holds a row. The gateway is asked once, whatever it answers.
 fn hold_drain(rt: &impl Abort, alloc: Global, row: &Drain) -> Result<(), Fail> {
     let (told, failing, ..) = *row;
-    let mut lane = with_gateway(alloc, told, failing)?;
+    let mut lane = with_gateway(alloc, told, &[], failing)?;
     hold_drained(rt, alloc, &mut lane, row)?;
     hold_asked(rt, lane, row)
 }

@@ -3,7 +3,7 @@
 use kb_codec::{Command, decode};
 use kb_days::Day;
 use kb_disk::MemoryDisk;
-use kb_gateway::{ListGateway, Told};
+use kb_gateway::{ListGateway, Seen, Told};
 use kb_journal::{Journal, LoadFault};
 use kb_lane::{Lane, LaneReply, Step};
 use kb_samples::day;
@@ -19,15 +19,17 @@ pub(crate) fn empty(alloc: Global, failing: &[u64]) -> Result<TestLane, Fail> {
     made(alloc, disk, silent(alloc))
 }
 
-/// An empty lane whose gateway answers orders so, and whose calls of these numbers fail.
+/// An empty lane whose gateway answers orders and look-ups so, and whose calls of these numbers fail.
 pub(crate) fn with_gateway(
     alloc: Global,
     told: &[Told],
+    seen: &[Seen],
     failing: &[u64],
 ) -> Result<TestLane, Fail> {
     let disk = MemoryDisk::new(alloc, Vec::new(alloc), Vec::new(alloc))?;
     let told = told.to_vec(alloc)?;
-    let gateway = ListGateway::new(alloc, told, Vec::new(alloc), failing.to_vec(alloc)?);
+    let seen = seen.to_vec(alloc)?;
+    let gateway = ListGateway::new(alloc, told, seen, failing.to_vec(alloc)?);
     made(alloc, disk, gateway)
 }
 
@@ -40,6 +42,17 @@ pub(crate) fn drained(lane: &mut TestLane, alloc: Global, today: Day) -> (u32, S
         }
     }
     (100, Step::Done)
+}
+
+/// Looks up the open payments of a lane.
+pub(crate) fn looked_up(lane: &mut TestLane, alloc: Global, today: Day) -> Step {
+    lane.janitor(alloc, today)
+}
+
+/// How many calls the gateway heard.
+pub(crate) fn calls_in(lane: TestLane) -> Option<usize> {
+    let (_, gateway) = lane.into_parts();
+    gateway.said().map(|said| said.len())
 }
 
 /// How often the gateway was asked.

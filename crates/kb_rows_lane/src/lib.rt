@@ -8,4 +8,6 @@ mod drains;
 #[cfg(test)]
 mod lanes;
 #[cfg(test)]
+mod look_ups;
+#[cfg(test)]
 mod rows;
