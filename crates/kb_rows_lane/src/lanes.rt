@@ -33,6 +33,16 @@ pub(crate) fn with_gateway(
     made(alloc, disk, gateway)
 }
 
+/// An empty lane whose gateway fails at its first call and has seen the payment then, on a disk whose call of this
+/// number fails.
+pub(crate) fn on_disk(alloc: Global, failing: u64) -> Result<TestLane, Fail> {
+    let failing = [failing].to_vec(alloc)?;
+    let disk = MemoryDisk::new(alloc, Vec::new(alloc), failing)?;
+    let seen = [Seen::Told(Told::Processed)].to_vec(alloc)?;
+    let gateway = ListGateway::new(alloc, Vec::new(alloc), seen, [1].to_vec(alloc)?);
+    made(alloc, disk, gateway)
+}
+
 /// Handles entries of the outbox until a step isn't done: how many were, and that step.
 pub(crate) fn drained(lane: &mut TestLane, alloc: Global, today: Day) -> (u32, Step) {
     for count in 0..100 {

@@ -2,7 +2,9 @@
 
 use crate::compare::same;
 use crate::drains::PAID;
-use crate::lanes::{TestLane, calls_in, count_of, drained, looked_up, with_gateway};
+use crate::lanes::{
+    TestLane, again, calls_in, count_of, drained, looked_up, on_disk, with_gateway,
+};
 use crate::rows::hold_lines;
 use kb_gateway::{Seen, Told};
 use kb_lane::Step;
@@ -116,5 +118,46 @@ fn hold_counts(
 
 fn hold_calls(rt: &impl Abort, lane: TestLane, row: &LookUp) -> Result<(), Fail> {
     same(rt, &calls_in(lane), &Some(row.2.len() + 1), &row.3);
+    Ok(())
+}
+
+/// The call of the disk that fails as the payment is settled, and how many commands are loaded from it then. The
+/// lane is made by three calls, and each command that is written down makes four.
+static FAULTS: [(u64, u64); 4] = [(16, 3), (17, 3), (18, 3), (19, 4)];
+
+#[test]
+fn disks_that_fail_under_a_look_up(rt: HostRuntime) -> Result<(), Fail> {
+    for fault in FAULTS {
+        hold_fault(&rt, rt.alloc(), fault)?;
+    }
+    Ok(())
+}
+
+fn hold_fault(rt: &impl Abort, alloc: Global, fault: (u64, u64)) -> Result<(), Fail> {
+    let mut lane = on_disk(alloc, fault.0)?;
+    hold_stopped(rt, alloc, &mut lane, fault.0)?;
+    let lane = again(alloc, lane)?;
+    same(rt, &count_of(&lane), &fault.1, &fault.0);
+    Ok(())
+}
+
+/// The look-up ends with the fault, and the next one finds that the lane has stopped.
+fn hold_stopped(
+    rt: &impl Abort,
+    alloc: Global,
+    lane: &mut TestLane,
+    call: u64,
+) -> Result<(), Fail> {
+    hold_lines(rt, alloc, lane, PAID)?;
+    let today = day("2024-03-01")?;
+    let steps = drained(lane, alloc, today);
+    let first = looked_up(lane, alloc, today);
+    let second = looked_up(lane, alloc, today);
+    same(
+        rt,
+        &(steps, first, second),
+        &((4, Step::Idle), Step::DiskFault, Step::Stopped(3)),
+        &call,
+    );
     Ok(())
 }
