@@ -11,19 +11,9 @@ use Rattle.kb_laws.specs.NextDues.{transition_of, payment_of, next_due}
 use Rattle.kb_machine.specs.Machines.{is_callers}
 use Rattle.kb_attempts.specs.Attempts.{settles}
 use Rattle.kb_lane.specs.declared.work.Work.{Work}
-use Rattle.kb_lane.specs.Asking.{SettlesNone}
+use Rattle.kb_lane.specs.Private.Runs.{SettlesNone}
 
--- no command of a caller settles one
-callers-settle : (command : Command) (account key : List ℕ) → is_callers command ≡ true
-    → settles command account key ≡ false
-callers-settle (kinds.Settle c) account key callers = absurd (true≢false (sym callers))
-callers-settle command account key callers = refl
-
-pub callers_settle_none : (command : Command) (outbox : List Work) → is_callers command ≡ true
-    → SettlesNone command outbox
-callers_settle_none command outbox callers = λ k d inside. callers-settle command _ _ callers
-
--- nor does what an account asks for by itself
+-- what an account asks for by itself settles none
 module _ (world : WorldValue) (book : BookValue) (today : ℕ) (command : Command) (account key : List ℕ) where
   transition-settles : (full : Bool)
       → (if full then None else Some (kinds.Overdue (record { account = book.account }))) ≡ Some command

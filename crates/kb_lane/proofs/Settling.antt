@@ -27,10 +27,11 @@ use Rattle.kb_lane.specs.declared.work.Work.{Work}
 use Rattle.kb_lane.specs.declared.work.Work.TheVariants.{Check}
 use Rattle.kb_lane.specs.Lanes.{LaneValue}
 use Rattle.kb_attempts.specs.Attempts.{attempt_in}
-use Rattle.kb_lane.specs.Asking.{asked_for, attempt_asked, SettlesNone}
+use Rattle.kb_lane.specs.Asking.{asked_for, attempt_asked}
 use Rattle.kb_lane.specs.Works.{work_of}
 use Rattle.kb_lane.specs.Draining.{order_for, order_in, order_of, settled_by, with_outbox, Writes, Accepts, Asks, Orders}
 use Rattle.kb_lane.specs.Private.Settlements.{IsChosen, IsReadyOf, IsBusy, fault_step}
+use Rattle.kb_lane.specs.Private.Runs.{SettlesNone}
 
 -- a settlement that was chosen is the one that there is
 pub chosen_command : (machine : MachineValue) (today : ℕ) (command : Option Command) (ready : Settlement)
@@ -192,11 +193,6 @@ failed_writes fault_count old new entry fault.DiskFault appends same = record {
   stopped = appends.1;
   cause = appends.4;
 }
-
-pub fault_busy : (fault : AppendFault) → IsBusy (fault_step fault)
-fault_busy (fault.Stopped count) = tt
-fault_busy (fault.Full commands bytes) = tt
-fault_busy fault.DiskFault = tt
 
 pub fault_ready : (fault : AppendFault) → fault_step fault ≡ steps.NoMemory → ⊥
 fault_ready (fault.Stopped count) same = absurd (cc)

@@ -1,13 +1,12 @@
 -- What a lane asked of its gateway, and what it is yet to ask.
-use Rattle.std.specs.Prelude.{ℕ, ◌≡◌, false, List, [], ◌∷◌, ◌++◌, All, IsSome, Option, None, Some}
+use Rattle.std.specs.Prelude.{ℕ, ◌≡◌, List, [], ◌∷◌, ◌++◌, All, IsSome, Option, None, Some}
 use Rattle.std.specs.Prelude.{codes, refl}
 use Rattle.std.specs.List.{AllPairs}
 use Rattle.kb_payment.specs.declared.attempt.Attempt.{Attempt}
 use Rattle.kb_payment.specs.declared.attempt.Status.TheVariants.{Unknown}
 use Rattle.kb_gateway.specs.declared.order.Asked.{Asked}
-use Rattle.kb_codec.specs.declared.command.Command.{Command}
 use Rattle.kb_machine.specs.Machines.{MachineValue}
-use Rattle.kb_attempts.specs.Attempts.{attempt_at, settles}
+use Rattle.kb_attempts.specs.Attempts.{attempt_at}
 use Rattle.kb_lane.specs.declared.work.Work.{Work}
 use Rattle.kb_lane.specs.declared.work.Work.TheVariants.{Ask, Check}
 
@@ -24,10 +23,6 @@ asks_in (Check account ∷ later) = asks_in later
 one_of_two : asks_in (Check (codes "a1") ∷ Ask (codes "a1") (codes "p1") ∷ [])
     ≡ record { account = codes "a1"; key = codes "p1" } ∷ []
 one_of_two = refl
-
--- a command settles none of the payments that an outbox is yet to ask for
-abbrev pub SettlesNone : Command → List Work → Type 0
-SettlesNone command outbox = All (λ (one : Asked). settles command one.account one.key ≡ false) (asks_in outbox)
 
 -- no two of them are the same
 abbrev pub AreApart : List Asked → Type 0

@@ -56,10 +56,6 @@ StandsThroughout honest moment left_since old new entry = old.journal.stopped �
     → AtEachMoment moment left_since old.journal.disk new.journal.disk
     (IsWithOrWithout old.journal.lanes old.journal.lane (payloads old.history) (payload entry))
 
--- a history goes on from another
-abbrev pub GoesOn : History → History → Type 0
-GoesOn old new = (more : History) × (new ≡ old ++ more)
-
 -- An image stands for the first commands of a log, at least so many.
 abbrev pub IsPast : {D : Type 0} → ℕ → LogValue D → List ℕ → Type 0
 IsPast least log image = (some : History) × (rest : History) × (log.history ≡ some ++ rest)
@@ -72,15 +68,8 @@ IsPart least log image = IsPast least log image
     × StandsFor log.journal.lanes log.journal.lane (payloads log.history ++ payload entry ∷ []) image)
 
 -- At each moment from one state of a log to a later one, if no append had failed before, an honest disk is as it
--- was, or each image stands for the earlier history or for that and the first of the commands that came since.
-abbrev pub StandsPast : {D : Type 0} → (D → Bool) → (D → ℕ) → (D → ℕ → List ℕ → Type 0) → LogValue D
-    → LogValue D → Type 0
-StandsPast honest moment left_since old new = old.journal.stopped ≡ false
-    → IsTrue (honest old.journal.disk)
-    → (new.journal.disk ≡ old.journal.disk)
-    ⊎ AtEachMoment moment left_since old.journal.disk new.journal.disk (IsPast (length old.history) new)
-
--- So it does, but at the end the append of a command may have failed.
+-- was, or each image stands for the earlier history, for that and the first of the commands that came since, or
+-- for all of them and the one whose append failed.
 abbrev pub StandsWithin : {D : Type 0} → (D → Bool) → (D → ℕ) → (D → ℕ → List ℕ → Type 0) → LogValue D
     → LogValue D → Type 0
 StandsWithin honest moment left_since old new = old.journal.stopped ≡ false

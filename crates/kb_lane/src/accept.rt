@@ -11,11 +11,11 @@ ghost use Rattle.kb_reply.specs.declared.reply.LaneReply.TheVariants as replies;
 ghost use Rattle.kb_machine.specs.Judged.{New, is_new};
 ghost use Rattle.kb_machine.specs.Machines.{judged, reply_of, with_book, book_of, is_callers};
 ghost use Rattle.kb_machine.specs.Plans.{changed, change_reply, plan_judged, IsThere, Fits};
-ghost use Rattle.kb_lane.specs.Asking.{SettlesNone};
 ghost use Rattle.kb_lane.specs.Lanes.{StandsThroughout, StaysItself, machine_of};
 ghost use Rattle.kb_lane.specs.Works.{work_of};
 ghost use Rattle.kb_lane.specs.Replies.{IsReply, is_accepted, is_taken, Takes, IsMarked};
 ghost use Rattle.kb_lane.specs.Private.Unwritten.{IsUnwritten, HasWritten, unwritten_reply};
+ghost use Rattle.kb_lane.specs.Private.Runs.{SettlesNone};
 
 use crate::works::{ask_of, check_of};
 use crate::{Lane, LaneReply, Work};

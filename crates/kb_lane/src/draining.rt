@@ -12,11 +12,11 @@ ghost use Rattle.kb_machine.specs.Machines.{judged};
 ghost use Rattle.kb_machine.specs.Plans.{changed};
 ghost use Rattle.kb_lane.specs.declared.work.Work.{Work as AnyWork};
 ghost use Rattle.kb_lane.specs.declared.work.Work.TheVariants as works;
-ghost use Rattle.kb_lane.specs.Asking.{SettlesNone};
 ghost use Rattle.kb_lane.specs.Lanes.{StandsThroughout, StaysItself, machine_of};
 ghost use Rattle.kb_lane.specs.Draining.{due_of, order_of, Looks, Asks};
 ghost use Rattle.kb_lane.specs.Draining.{Orders, Writes, IsWritten};
 ghost use Rattle.kb_lane.specs.Private.Settlements.{IsReadyOf, AreReady, IsBusy, fault_step};
+ghost use Rattle.kb_lane.specs.Private.Runs.{SettlesNone};
 
 use crate::settlement::{Settlement, Settlements};
 use crate::{Lane, LaneReply, Step, Work};

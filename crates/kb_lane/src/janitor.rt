@@ -7,13 +7,14 @@ ghost use Rattle.kb_gateway.specs.declared.order.Asked.{Asked as AnyAsked};
 ghost use Rattle.kb_reply.specs.declared.step.Step.TheVariants as steps;
 ghost use Rattle.kb_machine.specs.Judged.{is_new};
 ghost use Rattle.kb_machine.specs.Machines.{judged};
-ghost use Rattle.kb_lane.specs.Asking.{asks_in, attempt_asked, SettlesNone};
-ghost use Rattle.kb_lane.specs.Lanes.{StandsPast, StandsWithin, StaysItself, GoesOn, machine_of};
+ghost use Rattle.kb_lane.specs.Asking.{asks_in, attempt_asked};
+ghost use Rattle.kb_lane.specs.Lanes.{StandsWithin, StaysItself, machine_of};
 ghost use Rattle.kb_lane.specs.Draining.{Writes};
 ghost use Rattle.kb_lane.specs.LookingUp.{EachDone, Looked, to_look_up, is_ask, news, seen_status};
 ghost use Rattle.kb_book.specs.PaymentRows.{same_status};
 ghost use Rattle.kb_lane.specs.Private.Looking.{IsOpen, IsBeside, AreToLookUp, AreOpenIn, left_in, left_of};
 ghost use Rattle.kb_lane.specs.Private.Looking.{left_one};
+ghost use Rattle.kb_lane.specs.Private.Runs.{GoesOn, SettlesNone, StandsPast};
 
 use crate::{Lane, Step, Work};
 use kb_base::{Failed, NoMemory};

@@ -2,11 +2,12 @@ use Rattle.std.proofs.Common.{◌≡◌, refl, sym, ap, subst, ◌∙◌, ◌++�
 use Rattle.kb_codec.specs.declared.command.Command.TheVariants as kinds
 use Rattle.kb_machine.specs.Histories.{replay}
 use Rattle.kb_machine.specs.Plans.{changed, change_reply}
-use Rattle.kb_lane.specs.Asking.{asked_for, SettlesNone}
+use Rattle.kb_lane.specs.Asking.{asked_for}
 use Rattle.kb_lane.specs.Lanes.{machine_of, IsLane}
 use Rattle.kb_lane.specs.Draining.{settled_by}
 use Rattle.kb_lane.specs.Private.Settlements.{IsReadyOf}
 use Rattle.kb_lane.specs.declared.work.Work.TheVariants as works
+use Rattle.kb_lane.specs.Private.Runs.{SettlesNone}
 use Rattle.kb_lane.proofs.Kept.{lane_asked, lane_frees, lane_grows, lane_stays, own_noted}
 use Rattle.kb_lane.proofs.Settling.{chosen_command, unchosen_command, chosen_ready, settled_check, order_asked}
 use Rattle.kb_lane.proofs.Settling.{settled_frees, failed_history, failed_writes, fault_ready}

@@ -2,9 +2,10 @@ use Rattle.std.proofs.Common.{◌≡◌, false, drop, All}
 use Rattle.kb_gateway.specs.declared.order.Asked.{Asked}
 use Rattle.kb_reply.specs.declared.step.Step.{Step}
 use Rattle.kb_lane.specs.Asking.{asks_in, attempt_asked}
-use Rattle.kb_lane.specs.Lanes.{LaneValue, StaysItself, StandsPast, GoesOn, machine_of}
+use Rattle.kb_lane.specs.Lanes.{LaneValue, StaysItself, machine_of}
 use Rattle.kb_lane.specs.LookingUp.{EachDone, Looked}
 use Rattle.kb_lane.specs.Private.Looking.{IsOpen}
+use Rattle.kb_lane.specs.Private.Runs.{GoesOn, StandsPast}
 use Rattle.kb_lane.proofs.lane.Lane.look_up_each.Given as goal
 
 -- what is left to do from here on completes what was done
