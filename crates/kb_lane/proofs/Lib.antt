@@ -3,12 +3,16 @@ mod Choices
 mod Freed
 mod Grows
 mod Kept
+mod LaneWork
+mod LookedWell
 mod LookingUp
 mod Pairs
 mod Places
+pub mod Rest
 mod SaidReplies
 mod Settling
 mod Stuck
 mod ToLookUp
-mod Within
+pub mod Going
+pub mod Within
 mod Written

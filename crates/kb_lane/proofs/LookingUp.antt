@@ -26,32 +26,18 @@ use Rattle.kb_log.specs.Entries.{Entry, History}
 use Rattle.kb_machine.specs.Judged.{Judged, New, Again, Refused, is_new, after_judged}
 use Rattle.kb_machine.specs.Machines.{MachineValue, judged, book_of}
 use Rattle.kb_machine.specs.Histories.{replay, entry_after}
-use Rattle.kb_machine.proofs.Replays.{replay_new}
 use Rattle.kb_attempts.proofs.SettledAttempts.{settlements_leave_others}
 use Rattle.kb_lane.specs.Asking.{asked_for, asks_in, attempt_asked, AreApart}
-use Rattle.kb_lane.specs.Lanes.{LaneValue, StaysItself, machine_of}
+use Rattle.kb_lane.specs.Lanes.{LaneValue, machine_of}
 use Rattle.kb_lane.specs.Replies.{Takes}
 use Rattle.kb_lane.specs.Draining.{Writes, Accepts}
 use Rattle.kb_lane.specs.LookingUp.{open_in, is_ask, news, seen_status, resettled, LooksUp, Looked}
 use Rattle.kb_lane.specs.LookingUp.{EachDone}
 use Rattle.kb_lane.proofs.Pairs.{pairs_back, pairs_head}
+use Rattle.kb_lane.proofs.Rest.{next_item}
+use Rattle.kb_lane.proofs.Going.{replay_more}
 use Rattle.kb_lane.specs.Private.Looking.{IsOpen, left_of, left_in, left_each}
 use Rattle.kb_lane.proofs.Asking.{asks_append, settles_other}
-
--- what is new comes to a reply and a machine
-new-parts : {R A : Type 0} (told : Judged R A) → is_new told ≡ true → (reply : R) × (after : A) × (told ≡ New reply after)
-new-parts (New reply after) new = (reply, after, refl)
-new-parts (Again reply) new = absurd (true≢false (sym new))
-new-parts (Refused refusal) new = absurd (true≢false (sym new))
-
--- a new command leads on from what the history led to
-pub led_on : (history : History) (today : ℕ) (command : Command)
-    → is_new (judged (replay history) today command) ≡ true
-    → replay (history ++ (today, command) ∷ []) ≡ entry_after (replay history) (today, command)
-led_on history today command new =
-    let parts = new-parts (judged (replay history) today command) new in
-    replay_new history today command parts.0 parts.1 parts.2
-    ∙ sym (ap (after_judged (replay history)) parts.2)
 
 -- a payment that is open is there
 pub open_there : (found : Option Attempt) → IsOpen found → (attempt : Attempt) × (found ≡ Some attempt)
@@ -89,7 +75,7 @@ module _ {D G : Type 0} (old new : LaneValue D G) (today : ℕ) (payment : Asked
       → attempt_asked (machine_of new) one ≡ attempt_asked (machine_of old) one
   others_stay takes is one other =
       ap (λ machine. attempt_asked machine one)
-      (ap replay takes.history ∙ led_on old.log.history today (kinds.Settle the-settlement) is)
+      (ap replay takes.history ∙ replay_more old.log.history (today, kinds.Settle the-settlement))
       ∙ settlements_leave_others (machine_of old) today the-settlement one.account one.key
       (settles_other payment.account payment.key status one other)
 
@@ -140,20 +126,6 @@ module _ {D G : Type 0} (fault_count : D → ℕ) (asked : G → Option (List As
       looks.running looks.settled)
   looks_looked (steps.Full commands size) looks = looks
   looks_looked steps.NoMemory looks = looks
-
--- the item at a place stands in front of those behind it
-pub next_item : {A : Type 0} (items : List A) (place : ℕ) (item : A) → place < length items
-    → item ≡ get_or items place item → drop place items ≡ item ∷ drop (suc place) items
-next_item [] place item inside is = absurd (omega (arith, inside))
-next_item (first ∷ later) zero item inside is = ap (λ it. it ∷ later) (sym is)
-next_item (first ∷ later) (suc place) item inside is = next_item later place item (omega (arith, inside)) is
-
--- at the end of a list nothing is left, and all was taken
-pub all_done : {A : Type 0} (items : List A) (place : ℕ) → length items ≤ place → drop place items ≡ []
-all_done [] zero done = refl
-all_done [] (suc place) done = refl
-all_done (first ∷ later) zero done = absurd (omega (arith, done))
-all_done (first ∷ later) (suc place) done = all_done later place (omega (arith, done))
 
 pub all_taken : {A : Type 0} (items : List A) (place : ℕ) → length items ≤ place → take place items ≡ items
 all_taken [] zero done = refl
@@ -206,19 +178,6 @@ module _ (payments : List Asked) (place : ℕ) (item : Asked) (inside : place < 
       (λ k d within. subst IsOpen (sym (others (get_or (drop (suc place) payments) k d)
       (pairs_head (λ (one other : Asked). one ≡ other → ⊥) item (drop (suc place) payments) next k d within)))
       (All-tail (λ (one : Asked). IsOpen (attempt_asked before one)) item (drop (suc place) payments) here k d within))
-
--- what no call changes, over two of them
-pub itself_then : {D G : Type 0} (honest : D → Bool) (fault_count : D → ℕ) (old between new : LaneValue D G)
-    → StaysItself honest fault_count old between → StaysItself honest fault_count between new
-    → StaysItself honest fault_count old new
-itself_then honest fault_count old between new first second = record {
-  lanes = second.lanes ∙ first.lanes;
-  lane = second.lane ∙ first.lane;
-  opened = second.opened ∙ first.opened;
-  faults = second.faults ∙ first.faults;
-  as_honest = second.as_honest ∙ first.as_honest;
-  rising = omega (arith, first.rising, second.rising);
-}
 
 -- what each item of a list adds, one after another
 module _ {A B : Type 0} (one : A → List B) (each : List A → List B)

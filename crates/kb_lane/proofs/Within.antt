@@ -11,7 +11,7 @@ use Rattle.kb_reply.specs.declared.step.Step.{Step}
 use Rattle.kb_reply.specs.declared.step.Step.TheVariants as steps
 use Rattle.kb_lane.specs.Lanes.{LaneValue, StandsThroughout, StandsWithin, IsPast, IsPart}
 use Rattle.kb_lane.specs.Draining.{Writes, IsWritten}
-use Rattle.kb_lane.specs.Private.Runs.{GoesOn, StandsPast}
+use Rattle.kb_lane.specs.Going.{GoesOn, StandsPast}
 
 module _ {D : Type 0} (honest : D → Bool) (moment : D → ℕ) (left_since : D → ℕ → List ℕ → Type 0) where
   -- nothing is written

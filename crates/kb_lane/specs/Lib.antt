@@ -1,9 +1,11 @@
 pub mod Works
 pub mod Asking
 pub mod Lanes
+pub mod Going
 pub mod Reading
 pub mod Replies
 pub mod Draining
 pub mod LookingUp
+pub mod LaneWork
 pub mod Loads
 pub mod Private

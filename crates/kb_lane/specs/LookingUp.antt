@@ -108,3 +108,14 @@ abbrev pub EachDone : {L A : Type 0} → (L → L → A → Step → Type 0) →
 EachDone Handles old new [] step = (step ≡ steps.Done) × (new ≡ old)
 EachDone Handles old new (one ∷ later) step = ((step ≡ steps.Done → ⊥) × Handles old new one step)
     ⊎ ((between : _) × Handles old between one steps.Done × EachDone Handles between new later step)
+
+-- What a lane leaves that looks its open payments up: each, up to the first step that isn't done, or none if there
+-- is no memory for the list of them; and it asks for nothing.
+pub record LooksAllUp {D G : Type 0} (fault_count : D → ℕ) (asked : G → Option (List Asked))
+    (said : G → Option (List Saying)) (faults : G → ℕ) (today : ℕ) (old new : LaneValue D G) (step : Step)
+    : Type 0 where
+  pub busy : step ≡ steps.Idle → ⊥
+  pub looked : EachDone (Looked fault_count asked said faults today) old new (to_look_up old) step
+      ⊎ ((step ≡ steps.NoMemory) × (new ≡ old))
+  pub silent : asked new.gateway ≡ asked old.gateway
+  pub own : new.own ≡ old.own

@@ -1,13 +1,15 @@
 -- What a lane replies to a command, and what it leaves.
-use Rattle.std.specs.Prelude.{ℕ, ◌≡◌, Bool, true, false, ◌&&◌, [], ◌∷◌, ◌++◌, length, ⊤}
+use Rattle.std.specs.Prelude.{ℕ, ◌≡◌, ◌+◌, Bool, true, false, ◌&&◌, [], ◌∷◌, ◌++◌, length, ⊤}
 use Rattle.kb_base.specs.Faults.{Rose}
 use Rattle.kb_reply.specs.declared.reply.LaneReply.{LaneReply}
 use Rattle.kb_reply.specs.declared.reply.LaneReply.TheVariants as replies
 use Rattle.kb_log.specs.Entries.{Entry, payload}
 use Rattle.kb_log.specs.Logs.{MayAppend}
 use Rattle.kb_machine.specs.Judged.{Judged, is_new}
-use Rattle.kb_machine.specs.Machines.{MachineValue, reply_of}
-use Rattle.kb_lane.specs.Lanes.{LaneValue}
+use Rattle.kb_journal.specs.Keeping.{IsFull}
+use Rattle.kb_codec.specs.declared.command.Command.{Command}
+use Rattle.kb_machine.specs.Machines.{MachineValue, judged, reply_of}
+use Rattle.kb_lane.specs.Lanes.{LaneValue, machine_of}
 use Rattle.kb_lane.specs.Works.{work_of}
 
 -- The reply is the machine's, unless memory ran out; or the command is new, and isn't written down.
@@ -55,3 +57,20 @@ pub record IsMarked {D G : Type 0} (fault_count : D → ℕ) (old new : LaneValu
   pub may : MayAppend old.log (length (payload entry))
   pub stopped : new.log.journal.stopped ≡ true
   pub cause : Rose (fault_count old.log.journal.disk) (fault_count new.log.journal.disk)
+
+-- What the performing of a command that comes on a day leaves, by its reply: it is taken, or marked, or the lane is as it was;
+-- `Stopped` and `Full` come by their causes; and no gateway is asked.
+pub record Performs {D G : Type 0} (fault_count : D → ℕ) (old new : LaneValue D G) (today : ℕ) (command : Command)
+    (reply : LaneReply) : Type 0 where
+  pub told : IsReply (judged (machine_of old) today command) reply
+  pub taken : is_taken (judged (machine_of old) today command) reply ≡ true → Takes old new (today, command)
+  pub untaken : is_taken (judged (machine_of old) today command) reply ≡ false
+      → (reply ≡ replies.DiskFault → ⊥) → new ≡ old
+  pub fault : reply ≡ replies.DiskFault → IsMarked fault_count old new (today, command)
+  pub stopped : (count : ℕ) → reply ≡ replies.Stopped count
+      → (old.log.journal.stopped ≡ true) × (count ≡ length old.log.history)
+  pub full : (commands size : ℕ) → reply ≡ replies.Full commands size → (old.log.journal.stopped ≡ false)
+      × IsFull old.log.journal (length (payload (today, command)))
+      × (commands ≡ length old.log.history) × (size ≡ old.log.journal.gate + 1)
+  pub gateway : new.gateway ≡ old.gateway
+  pub own : new.own ≡ old.own

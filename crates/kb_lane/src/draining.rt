@@ -2,6 +2,7 @@
 ghost use Rattle.std.specs.Prelude.{◌≡◌, ◌≤◌, ◌<◌, ◌^◌, ◌↔◌, ◌∷◌, ◌++◌, [], drop, ℕ, Some, Err, List};
 ghost use Rattle.std.specs.Prelude.{true, false, length, IsTrue, IsSome, IfSome, OnOk, OnErr};
 ghost use Rattle.std.specs.Option.{option_to_list};
+ghost use Rattle.kb_days.specs.Calendar.{last_day};
 ghost use Rattle.kb_disk.specs.Moments.{AtEachMoment};
 ghost use Rattle.kb_journal.specs.Format.{IsWithOrWithout};
 ghost use Rattle.kb_log.specs.Entries.{Entry, payload, payloads};
@@ -13,6 +14,7 @@ ghost use Rattle.kb_machine.specs.Plans.{changed};
 ghost use Rattle.kb_lane.specs.declared.work.Work.{Work as AnyWork};
 ghost use Rattle.kb_lane.specs.declared.work.Work.TheVariants as works;
 ghost use Rattle.kb_lane.specs.Lanes.{StandsThroughout, StaysItself, machine_of};
+ghost use Rattle.kb_lane.specs.LaneWork.{lane_work};
 ghost use Rattle.kb_lane.specs.Draining.{due_of, order_of, Looks, Asks};
 ghost use Rattle.kb_lane.specs.Draining.{Orders, Writes, IsWritten};
 ghost use Rattle.kb_lane.specs.Private.Settlements.{IsReadyOf, AreReady, IsBusy, fault_step};
@@ -34,7 +36,8 @@ impl<D: Disk, G: Gateway + Drop> Lane<D, G> {
     /// accepts the command that it asks for by itself, if there is one. To ask for a payment asks the
     /// gateway, and accepts the settlement by its answer, unless it failed or can't say. A step that isn't
     /// `Done` leaves the entry in its place, but if the gateway was asked. A lane that has stopped asks
-    /// nothing, and all memory is taken before the gateway is asked.
+    /// nothing, and all memory is taken before the gateway is asked. Each step that is `Done` takes work off
+    /// what the lane has left to do on that day.
     pub fn handle_next(&mut self, alloc: Global, today: Day) -> Step
         ensures idle { result ≡ steps.Idle ↔ (self.old.outbox ≡ []) }
         ensures rests { self.old.outbox ≡ [] → self.new ≡ self.old }
@@ -48,11 +51,22 @@ impl<D: Disk, G: Gateway + Drop> Lane<D, G> {
         ensures moments { (entry : Entry) → IsWritten self.old.log self.new.log entry
             → StandsThroughout D.honest D.moment D.left_since self.old.log self.new.log entry }
         ensures itself { StaysItself D.honest D.fault_count self.old self.new }
+        ensures lowers { result ≡ steps.Done → lane_work today self.new < lane_work today self.old }
     {
+        self.is_within(today);
         let Some(work) = self.first() else {
             return Step::Idle;
         };
         self.handle(alloc, today, work)
+    }
+
+    /// A history has fewer commands than a number counts, and a day is one that a command may name: what the work
+    /// left is measured by.
+    fn is_within(&self, today: Day)
+        ensures few { length self.now.log.history < 2 ^ 64 }
+        ensures last { today ≤ last_day }
+    {
+        let _ = (self.log.count(), today.number());
     }
 
     /// The entry at the front of the outbox.

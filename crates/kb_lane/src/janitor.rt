@@ -14,7 +14,8 @@ ghost use Rattle.kb_lane.specs.LookingUp.{EachDone, Looked, to_look_up, is_ask, 
 ghost use Rattle.kb_book.specs.PaymentRows.{same_status};
 ghost use Rattle.kb_lane.specs.Private.Looking.{IsOpen, IsBeside, AreToLookUp, AreOpenIn, left_in, left_of};
 ghost use Rattle.kb_lane.specs.Private.Looking.{left_one};
-ghost use Rattle.kb_lane.specs.Private.Runs.{GoesOn, SettlesNone, StandsPast};
+ghost use Rattle.kb_lane.specs.Going.{GoesOn, GoesWell, StandsPast};
+ghost use Rattle.kb_lane.specs.Private.Runs.{SettlesNone};
 
 use crate::{Lane, Step, Work};
 use kb_base::{Failed, NoMemory};
@@ -36,7 +37,7 @@ impl<D: Disk, G: Gateway + Drop> Lane<D, G> {
             (to_look_up self.old) result ⊎ ((result ≡ steps.NoMemory) × (self.new ≡ self.old)) }
         ensures silent { G.asked self.new.gateway ≡ G.asked self.old.gateway }
         ensures own { self.new.own ≡ self.old.own }
-        ensures moments { StandsWithin D.honest D.moment D.left_since self.old.log self.new.log }
+        ensures well { GoesWell D.honest D.moment D.left_since self.old.log self.new.log }
         ensures itself { StaysItself D.honest D.fault_count self.old self.new }
     {
         match self.to_look_up(alloc) {
@@ -53,7 +54,7 @@ impl<D: Disk, G: Gateway + Drop> Lane<D, G> {
             payments.now result }
         ensures silent { G.asked self.new.gateway ≡ G.asked self.old.gateway }
         ensures own { self.new.own ≡ self.old.own }
-        ensures moments { StandsWithin D.honest D.moment D.left_since self.old.log self.new.log }
+        ensures well { GoesWell D.honest D.moment D.left_since self.old.log self.new.log }
         ensures itself { StaysItself D.honest D.fault_count self.old self.new }
     {
         for payment in payments {

@@ -1,8 +1,10 @@
 //! A lane, and what it tells of itself.
-ghost use Rattle.std.specs.Prelude.{◌≡◌, ◌≤◌, ◌<◌, [], false, length, IsTrue, IfOk, IfErr};
+ghost use Rattle.std.specs.Prelude.{◌≡◌, ◌≤◌, ◌<◌, [], true, false, length, IsTrue, IfOk, IfErr};
 ghost use Rattle.std.specs.Option.{option_copied};
+ghost use Rattle.kb_base.specs.Faults.{Rose};
 ghost use Rattle.kb_journal.specs.Keeping.{Holds, RefusesToCreate};
 ghost use Rattle.kb_log.specs.Entries.{payloads};
+ghost use Rattle.kb_log.specs.Logs.{StandsForLog};
 ghost use Rattle.kb_machine.specs.Machines.{book_of};
 ghost use Rattle.kb_lane.specs.Asking.{WasAskedOnce};
 ghost use Rattle.kb_lane.specs.Lanes.{machine_of, opened_of};
@@ -95,11 +97,17 @@ impl<D: Disk, G: Gateway + Drop> Lane<D, G> {
         }
     }
 
-    /// The disk and the gateway, as they are. If the gateway tells what it was asked, it was asked for no payment
-    /// twice, provided that before the lane was opened it was asked once each, for attempts that the lane had then.
+    /// The disk and the gateway, as they are. The bytes of an honest disk stand for the history; or, if an append has
+    /// failed, for that or for it and the command whose append failed, and the disk's count of failed calls has risen
+    /// since the lane was opened. If the gateway tells what it was asked, it was asked for no payment twice, provided
+    /// that before the lane was opened it was asked once each, for attempts that the lane had then.
     pub fn into_parts(self) -> (D, G)
         ensures disk { result.0 ≡ self.log.journal.disk }
         ensures gateway { result.1 ≡ self.gateway }
+        ensures stands { IsTrue (D.honest self.log.journal.disk)
+            → StandsForLog self.log (D.seen self.log.journal.disk) }
+        ensures caused { self.log.journal.stopped ≡ true
+            → Rose self.log.faults (D.fault_count self.log.journal.disk) }
         ensures once { WasAskedOnce (opened_of self) (G.asked self.gateway) self.own }
     {
         (self.log.into_disk(), self.gateway)
@@ -110,6 +118,13 @@ impl<D: Disk, G: Gateway + Drop> Lane<D, G> {
         ensures { result ≡ self.now.log.journal.lanes }
     {
         self.log.lanes()
+    }
+
+    /// Whether an append has failed: then no further command is written down, until the lane is loaded again.
+    pub fn is_stopped(&self) -> bool
+        ensures { result ≡ self.now.log.journal.stopped }
+    {
+        self.log.is_stopped()
     }
 
     /// How many commands are acknowledged. As long as no append has failed, each image of an honest disk

@@ -21,4 +21,5 @@ mod works;
 
 pub use kb_reply::{LaneReply, Step};
 pub use lane::Lane;
+pub use reading::account_asked;
 pub use work::Work;

@@ -1,5 +1,5 @@
 //! Lanes that are loaded.
-ghost use Rattle.std.specs.Prelude.{◌≡◌, [], false, length, IsTrue, IfOk, IfErr};
+ghost use Rattle.std.specs.Prelude.{◌≡◌, ◌≤◌, [], false, length, IsTrue, IfOk, IfErr};
 ghost use Rattle.kb_journal.specs.Keeping.{Holds};
 ghost use Rattle.kb_journal.specs.Format.{StandsFor};
 ghost use Rattle.kb_journal.specs.Unwritten.{IsUnwritten};
@@ -32,6 +32,10 @@ impl<D: Disk, G: Gateway + Drop> Lane<D, G> {
         ensures opened { IfOk result (λ loaded. loaded.log.opened ≡ length loaded.log.history) }
         ensures running { IfOk result (λ loaded. loaded.log.journal.stopped ≡ false) }
         ensures place { IfOk result (λ loaded. loaded.log.journal.lane ≡ lane) }
+        ensures some_lanes { IfOk result (λ loaded. 1 ≤ loaded.log.journal.lanes) }
+        ensures few_lanes { IfOk result (λ loaded. loaded.log.journal.lanes ≤ 64) }
+        ensures calm { IfOk result (λ loaded.
+            D.fault_count loaded.log.journal.disk ≡ D.fault_count disk) }
         ensures faults { IfOk result (λ loaded. loaded.log.faults ≡ D.fault_count loaded.log.journal.disk) }
         ensures outbox { IfOk result (λ loaded. loaded.outbox ≡ []) }
         ensures own { IfOk result (λ loaded. loaded.own ≡ []) }

@@ -37,8 +37,8 @@ impl<D: Disk, G: Gateway + Drop> Lane<D, G> {
     }
 }
 
-/// The account of a query.
-fn account_asked(query: &Query) -> Name
+/// The account that a query is on.
+pub fn account_asked(query: &Query) -> Name
     ensures { result ≡ asked_account query.now }
 {
     match *query {

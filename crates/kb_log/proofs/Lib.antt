@@ -1,3 +1,4 @@
 mod Marks
 mod Outcomes
 mod Payloads
+mod Standing

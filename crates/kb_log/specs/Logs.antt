@@ -1,8 +1,8 @@
 -- A log: the commands that a journal has, and the one whose append failed.
-use Rattle.std.specs.Prelude.{ℕ, ◌≡◌, ◌≤◌, ◌+◌, Bool, true, false, IsTrue, List, [], ◌∷◌, ◌++◌, length}
+use Rattle.std.specs.Prelude.{ℕ, ◌≡◌, ◌≤◌, ◌+◌, ◌⊎◌, Bool, true, false, IsTrue, List, [], ◌∷◌, ◌++◌, length}
 use Rattle.std.specs.Prelude.{Result, Ok, Err}
 use Rattle.kb_base.specs.Faults.{Rose}
-use Rattle.kb_journal.specs.Format.{IsWithOrWithout}
+use Rattle.kb_journal.specs.Format.{IsWithOrWithout, StandsFor}
 use Rattle.kb_journal.specs.Keeping.{JournalValue, Holds, IsFull}
 use Rattle.kb_journal.specs.declared.fault.AppendFault.{AppendFault}
 use Rattle.kb_journal.specs.declared.fault.AppendFault.TheVariants.{Stopped, Full, DiskFault}
@@ -37,6 +37,14 @@ pub record IsLog {D : Type 0} (honest : D → Bool) (seen : D → List ℕ) (ima
   pub marked : log.journal.stopped ≡ true → (entry : Entry) × (log.failed ≡ entry ∷ [])
       × (IsTrue (honest log.journal.disk) → IsTorn images log entry)
   pub caused : log.journal.stopped ≡ true → Rose log.faults (fault_count log.journal.disk)
+
+-- What the bytes of an honest disk stand for: the history; or, once an append has failed, that or it and the command
+-- whose append failed.
+abbrev pub StandsForLog : {D : Type 0} → LogValue D → List ℕ → Type 0
+StandsForLog log bytes =
+    ((log.journal.stopped ≡ false) × StandsFor log.journal.lanes log.journal.lane (payloads log.history) bytes)
+    ⊎ ((entry : Entry) × (log.failed ≡ entry ∷ [])
+    × IsWithOrWithout log.journal.lanes log.journal.lane (payloads log.history) (payload entry) bytes)
 
 -- an append may begin: none has failed, and the record has room
 abbrev pub MayAppend : {D : Type 0} → LogValue D → ℕ → Type 0

@@ -1,11 +1,12 @@
 //! The log of a lane.
 ghost use Rattle.std.specs.Prelude.{◌+◌, ◌^◌, ◌<◌, ◌≡◌, ◌↔◌, ◌≤◌, ◌++◌, ◌∷◌, [], ℕ, true, false, length, IsTrue, IfOk, IfErr, OnOk, OnErr, IsErrOf};
+ghost use Rattle.kb_base.specs.Faults.{Rose};
 ghost use Rattle.kb_codec.specs.declared.command.Command.{Command as AnyCommand};
 ghost use Rattle.kb_disk.specs.Moments.{AtEachMoment};
 ghost use Rattle.kb_journal.specs.Format.{IsSized, IsWithOrWithout};
 ghost use Rattle.kb_journal.specs.Keeping.{Holds, RefusesToCreate};
 ghost use Rattle.kb_log.specs.Entries.{payload, payloads};
-ghost use Rattle.kb_log.specs.Logs.{Appends};
+ghost use Rattle.kb_log.specs.Logs.{Appends, StandsForLog};
 
 use kb_codec::Command;
 use kb_days::Day;
@@ -115,9 +116,11 @@ impl<D: Disk> Log<D> {
         self.journal.lanes()
     }
 
-    /// The disk as it is.
+    /// The disk as it is. If an append has failed, its count of failed calls has risen since the log was opened.
     pub fn into_disk(self) -> D
-        ensures { result ≡ self.journal.disk }
+        ensures disk { result ≡ self.journal.disk }
+        ensures stands { IsTrue (D.honest self.journal.disk) → StandsForLog self (D.seen self.journal.disk) }
+        ensures caused { self.journal.stopped ≡ true → Rose self.faults (D.fault_count self.journal.disk) }
     {
         self.journal.into_disk()
     }

@@ -1,11 +1,11 @@
-use Rattle.std.proofs.Common.{◌≡◌, false, drop, All}
+use Rattle.std.proofs.Common.{◌≡◌, drop, All}
 use Rattle.kb_gateway.specs.declared.order.Asked.{Asked}
 use Rattle.kb_reply.specs.declared.step.Step.{Step}
 use Rattle.kb_lane.specs.Asking.{asks_in, attempt_asked}
 use Rattle.kb_lane.specs.Lanes.{LaneValue, StaysItself, machine_of}
 use Rattle.kb_lane.specs.LookingUp.{EachDone, Looked}
 use Rattle.kb_lane.specs.Private.Looking.{IsOpen}
-use Rattle.kb_lane.specs.Private.Runs.{GoesOn, StandsPast}
+use Rattle.kb_lane.specs.Going.{GoesWell}
 use Rattle.kb_lane.proofs.lane.Lane.look_up_each.Given as goal
 
 -- what is left to do from here on completes what was done
@@ -21,6 +21,4 @@ invariant-loop-payment g l =
     × (g.G.Gateway.asked l.self.gateway ≡ g.G.Gateway.asked l.initial.self.gateway)
     × (l.self.own ≡ l.initial.self.own)
     × StaysItself g.D.Disk.honest g.D.Disk.fault_count l.initial.self l.self
-    × StandsPast g.D.Disk.honest g.D.Disk.moment g.D.Disk.left_since l.initial.self.log l.self.log
-    × GoesOn l.initial.self.log.history l.self.log.history
-    × (l.initial.self.log.journal.stopped ≡ false → l.self.log.journal.stopped ≡ false)
+    × GoesWell g.D.Disk.honest g.D.Disk.moment g.D.Disk.left_since l.initial.self.log l.self.log

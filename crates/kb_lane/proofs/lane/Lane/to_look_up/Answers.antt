@@ -5,7 +5,8 @@ use Rattle.kb_book.specs.Books.{BookValue}
 use Rattle.kb_lane.specs.Lanes.{machine_of}
 use Rattle.kb_lane.specs.LookingUp.{to_look_up}
 use Rattle.kb_lane.specs.Private.Looking.{left_in, left_each, AreOpenIn, AreToLookUp}
-use Rattle.kb_lane.proofs.LookingUp.{each_on, all_done, all_taken, left_all}
+use Rattle.kb_lane.proofs.Rest.{all_done}
+use Rattle.kb_lane.proofs.LookingUp.{each_on, all_taken, left_all}
 use Rattle.kb_lane.proofs.ToLookUp.{are_to_look_up}
 use Rattle.kb_lane.proofs.lane.Lane.to_look_up.Goals as goal
 
