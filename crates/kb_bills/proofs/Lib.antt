@@ -1,0 +1,5 @@
+mod BillKeys
+mod BilledAccounts
+mod Handled
+mod TallySums
+mod WorkBounds

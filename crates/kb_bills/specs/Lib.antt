@@ -1,0 +1,4 @@
+pub mod Drains
+pub mod Tallies
+pub mod Bills
+pub mod WorkBounds
