@@ -1,0 +1,3 @@
+pub mod Among
+pub mod OnlyRuns
+pub mod Transferred
