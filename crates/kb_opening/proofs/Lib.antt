@@ -1,0 +1,9 @@
+mod Amongs
+mod AsBefore
+pub mod Closing
+mod GivenBack
+mod LeftIn
+mod Opened
+mod Places
+mod Returned
+mod Unloaded

@@ -1,0 +1,3 @@
+pub mod AllLanes
+pub mod Faults
+pub mod OneLane
