@@ -1,0 +1,4 @@
+mod Accepted
+mod Outcomes
+mod Read
+mod Rooms

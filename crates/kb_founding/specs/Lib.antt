@@ -1,0 +1,2 @@
+pub mod Foundings
+pub mod Private

@@ -1,0 +1,102 @@
+//! The journal of a lane, made with its first two records.
+ghost use Rattle.std.specs.Prelude.{◌≡◌, ◌≤◌, ◌<◌, ◌+◌, ◌++◌, ◌∷◌, [], ℕ, List, false, length, IsTrue, IfErr, OnOk, OnErr};
+ghost use Rattle.kb_base.specs.Faults.{Rose};
+ghost use Rattle.kb_journal.specs.Format.{IsSized, StandsFor};
+ghost use Rattle.kb_journal.specs.Keeping.{Holds, RefusesToCreate};
+
+use kb_base::Failed;
+use kb_disk::Disk;
+use kb_journal::{AppendFault, CreateFault, Journal};
+
+/// Makes the journal of a lane on a disk, with two records, and gives the disk back.
+pub(crate) fn write_lane<D: Disk>(
+    disk: D,
+    lane: u16,
+    lanes: u16,
+    first: &[u8],
+    second: &[u8],
+) -> (D, Result<(), CreateFault>)
+    requires one_of_them { lane < lanes }
+    requires few_lanes { lanes ≤ 64 }
+    requires sized_first { IsSized first.now }
+    requires sized_second { IsSized second.now }
+    ensures empty { IsTrue (D.honest disk) → OnOk result.1 (D.seen disk ≡ []) }
+    ensures stands { IsTrue (D.honest disk) → OnOk result.1
+        (StandsFor lanes lane (first.now ∷ second.now ∷ []) (D.seen result.0)) }
+    ensures calm { OnOk result.1 (D.fault_count result.0 ≡ D.fault_count disk) }
+    ensures refused { IfErr result.1 (λ fault.
+        RefusesToCreate D.honest D.seen D.images D.fault_count disk fault result.0) }
+{
+    match Journal::create(disk, lane, lanes) {
+        Ok(journal) => filled(journal, first, second),
+        Err((fault, disk)) => (disk, Err(fault)),
+    }
+}
+
+/// Adds two records to a new journal, and gives its disk.
+fn filled<D: Disk>(journal: Journal<D>, first: &[u8], second: &[u8]) -> (D, Result<(), CreateFault>)
+    requires running { journal.stopped ≡ false }
+    requires no_record { journal.count ≡ 0 }
+    requires placed { journal.gate ≡ 16 }
+    requires sized_first { IsSized first.now }
+    requires sized_second { IsSized second.now }
+    ensures stands { Holds D.honest D.seen D.images journal [] → OnOk result.1
+        (StandsFor journal.lanes journal.lane (first.now ∷ second.now ∷ []) (D.seen result.0)) }
+    ensures calm { OnOk result.1 (D.fault_count result.0 ≡ D.fault_count journal.disk) }
+    ensures fault { IfErr result.1 (λ fault. fault ≡ CreateFault.DiskFault) }
+    ensures cause { OnErr result.1 (Rose (D.fault_count journal.disk) (D.fault_count result.0)) }
+{
+    let mut journal = journal;
+    let added = add_both(&mut journal, first, second);
+    (journal.into_disk(), added)
+}
+
+/// Adds two records to a new journal.
+fn add_both<D: Disk>(
+    journal: &mut Journal<D>,
+    first: &[u8],
+    second: &[u8],
+) -> Result<(), CreateFault>
+    requires running { journal.old.stopped ≡ false }
+    requires no_record { journal.old.count ≡ 0 }
+    requires placed { journal.old.gate ≡ 16 }
+    requires sized_first { IsSized first.now }
+    requires sized_second { IsSized second.now }
+    ensures holds { Holds D.honest D.seen D.images journal.old [] → OnOk result
+        (Holds D.honest D.seen D.images journal.new (first.now ∷ second.now ∷ [])) }
+    ensures same { (journal.new.lanes ≡ journal.old.lanes) × (journal.new.lane ≡ journal.old.lane) }
+    ensures calm { OnOk result (D.fault_count journal.new.disk ≡ D.fault_count journal.old.disk) }
+    ensures fault { IfErr result (λ fault. fault ≡ CreateFault.DiskFault) }
+    ensures cause { OnErr result (Rose (D.fault_count journal.old.disk) (D.fault_count journal.new.disk)) }
+{
+    if add(journal, first).is_err() {
+        return Err(CreateFault::DiskFault);
+    }
+    match add(journal, second) {
+        Ok(()) => Ok(()),
+        Err(_) => Err(CreateFault::DiskFault),
+    }
+}
+
+/// Adds a record to a journal that has one at most.
+fn add<D: Disk>(journal: &mut Journal<D>, bytes: &[u8]) -> Result<(), Failed>
+    requires running { journal.old.stopped ≡ false }
+    requires few { journal.old.count ≤ 1 }
+    requires short { journal.old.gate ≤ 65557 }
+    requires sized { IsSized bytes.now }
+    ensures holds { (records : List (List ℕ)) → Holds D.honest D.seen D.images journal.old records
+        → OnOk result (Holds D.honest D.seen D.images journal.new (records ++ bytes.now ∷ [])) }
+    ensures running { OnOk result (journal.new.stopped ≡ false) }
+    ensures counted { OnOk result (journal.new.count ≡ journal.old.count + 1) }
+    ensures placed { OnOk result (journal.new.gate ≡ journal.old.gate + length bytes.now + 5) }
+    ensures same { (journal.new.lanes ≡ journal.old.lanes) × (journal.new.lane ≡ journal.old.lane) }
+    ensures calm { OnOk result (D.fault_count journal.new.disk ≡ D.fault_count journal.old.disk) }
+    ensures cause { OnErr result (Rose (D.fault_count journal.old.disk) (D.fault_count journal.new.disk)) }
+{
+    match journal.append(bytes) {
+        Ok(_) => Ok(()),
+        Err(AppendFault::DiskFault) => Err(Failed),
+        Err(AppendFault::Stopped(_)) => unreachable!(),
+        Err(AppendFault::Full { .. }) => unreachable!(),
+    }
+}
