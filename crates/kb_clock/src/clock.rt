@@ -3,8 +3,8 @@ ghost use Rattle.std.specs.Prelude.{◌≡◌, ℕ, Option, IfSome};
 
 use kb_days::Day;
 
-/// A clock, which workers share.
-pub trait Clock: Sync {
+/// A clock. Workers that share one ask moreover that it be `Sync`.
+pub trait Clock {
     /// The day that every call gives, where the object tells it.
     ghost day: { Self → Option ℕ };
 

@@ -1,2 +1,3 @@
+mod AskedCallers
 pub mod Steps
 pub mod FoundMembers

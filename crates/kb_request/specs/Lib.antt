@@ -3,5 +3,6 @@ pub mod Table
 pub mod Values
 pub mod Wrongs
 pub mod Asked
+pub mod Callers
 pub mod Requests
 pub mod SmallLines

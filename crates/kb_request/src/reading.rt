@@ -1,6 +1,7 @@
 //! Lines, read as requests.
 ghost use Rattle.std.specs.Prelude.{◌≡◌, Some, IfOk, IfErr};
 ghost use Rattle.serde_json.specs.View.{view, members_view};
+ghost use Rattle.kb_request.specs.Callers.{IsCallers};
 ghost use Rattle.kb_request.specs.Asked.{IsAsked};
 ghost use Rattle.kb_request.specs.Requests.{kind_in, ask_of_kind, ask_of_object, ask_of_value, ask, json_of};
 ghost use Rattle.kb_request.specs.Requests.{IsNoJson};
@@ -16,9 +17,17 @@ use serde_json::Value;
 use std::alloc::Global;
 
 /// Reads a line: as the request that it says, or its first fault. A line that may not be `dated` asks for a
-/// command alone, and names no day. `NoMemory` may come at any point.
-#[tactic(auto, using(crate::proofs::Steps::lines))]
+/// command alone, and names no day. A command that it asks for is one of a caller. `NoMemory` may come at any point.
 pub fn read_request(alloc: Global, line: &[u8], dated: bool) -> Result<Request, RequestFault>
+    ensures asked { IsAsked result (ask dated line.now) }
+    ensures callers { IfOk result (λ request. IsCallers request.what) }
+{
+    read_line(alloc, line, dated)
+}
+
+/// Reads a line.
+#[tactic(auto, using(crate::proofs::Steps::lines))]
+fn read_line(alloc: Global, line: &[u8], dated: bool) -> Result<Request, RequestFault>
     ensures { IsAsked result (ask dated line.now) }
 {
     match json(alloc, line) {
