@@ -1,0 +1,5 @@
+mod Accounts
+pub mod Continuing
+mod GoneOn
+mod LaneLoops
+mod Served

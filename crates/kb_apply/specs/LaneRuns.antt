@@ -1,0 +1,250 @@
+-- Lanes that answer lines: what each line does to them, and what is said.
+use Rattle.std.specs.Prelude.{ℕ, zero, suc, ◌+◌, ◌-◌, ◌≡◌, ◌≤◌, ◌⊎◌, ◌||◌, Bool, true, false, List, [], ◌∷◌, ◌++◌, length, set, slice_get, Option, Some, None}
+use Rattle.std.specs.Prelude.{Result, Ok, Err, IfSome, if◌then◌else◌, ⊤, refl}
+use Rattle.kb_base.specs.Machine.{Machine}
+use Rattle.kb_base.specs.Lines.{line_feed}
+use Rattle.kb_days.specs.Calendar.{first_day, last_day}
+use Rattle.kb_gateway.specs.declared.order.Asked.{Asked}
+use Rattle.kb_gateway.specs.declared.told.Saying.{Saying}
+use Rattle.kb_codec.specs.declared.command.Command.{Command}
+use Rattle.kb_book.specs.declared.refusal.Refusal.{Refusal}
+use Rattle.kb_book.specs.declared.refusal.Refusal.TheVariants as refusals
+use Rattle.kb_account.specs.declared.query.Query.{Query}
+use Rattle.kb_account.specs.declared.view.View.{View}
+use Rattle.kb_reply.specs.declared.reply.LaneReply.{LaneReply}
+use Rattle.kb_reply.specs.declared.reply.LaneReply.TheVariants as replies
+use Rattle.kb_reply.specs.declared.step.Step.{Step}
+use Rattle.kb_reply.specs.declared.step.Step.TheVariants as steps
+use Rattle.kb_machine.specs.Machines.{account_of, is_text}
+use Rattle.kb_lane.specs.Lanes.{LaneValue, machine_of}
+use Rattle.kb_lane.specs.Replies.{Performs}
+use Rattle.kb_lane.specs.LookingUp.{LooksAllUp}
+use Rattle.kb_lane.specs.Reading.{asked_account, view_of}
+use Rattle.kb_bills.specs.Drains.{Drains}
+use Rattle.kb_apply.specs.Continuing.{Continues}
+use Rattle.kb_desk.specs.Lanes.{lane_of}
+use Rattle.kb_request.specs.declared.fault.RequestFault.{RequestFault}
+use Rattle.kb_request.specs.declared.fault.RequestFault.TheVariants as faults
+use Rattle.kb_request.specs.declared.request.Request.{Request}
+use Rattle.kb_request.specs.declared.request.What.{What}
+use Rattle.kb_request.specs.declared.request.What.TheVariants as whats
+use Rattle.kb_request.specs.Asked.{IsAsked}
+use Rattle.kb_request.specs.Requests.{ask}
+use Rattle.kb_say.specs.declared.said.Said.{Said}
+use Rattle.kb_say.specs.declared.said.Said.TheVariants as says
+use Rattle.kb_say.specs.Answers.{say}
+
+-- What is told of disks, gateways and a clock: whether a disk is honest, how many moments it had, what a crash since
+-- one may leave, and how often it failed; what a gateway was asked and said, and how often it failed; and the day
+-- that a clock gives, if it is always the same.
+pub record Outside (D G C : Type 0) : Type 1 where
+  pub honest : D → Bool
+  pub moment : D → ℕ
+  pub left_since : D → ℕ → List ℕ → Type 0
+  pub fault_count : D → ℕ
+  pub asked : G → Option (List Asked)
+  pub said : G → Option (List Saying)
+  pub faults : G → ℕ
+  pub day : C → Option ℕ
+
+abbrev pub outside_of : {D G C : Type 0} → (D → Bool) → (D → ℕ) → (D → ℕ → List ℕ → Type 0) → (D → ℕ)
+    → (G → Option (List Asked)) → (G → Option (List Saying)) → (G → ℕ) → (C → Option ℕ) → Outside D G C
+outside_of honest moment left_since fault_count asked said faults day = record {
+  honest = honest;
+  moment = moment;
+  left_since = left_since;
+  fault_count = fault_count;
+  asked = asked;
+  said = said;
+  faults = faults;
+  day = day;
+}
+
+-- Lanes, by their numbers; the clock; and whether a lane had no room for a command.
+pub record LanesValue (D G C : Type 0) : Type 0 where
+  pub lanes : List (LaneValue D G)
+  pub clock : C
+  pub full : Bool
+
+-- The lane at a place goes on, and the others stay as they are.
+abbrev pub GoesAt : {L : Type 0} → (L → L → Type 0) → ℕ → List L → List L → Type 0
+GoesAt Goes place old new = (lane : _) × (next : _) × (slice_get old place ≡ Some lane)
+    × (new ≡ set old place next) × Goes lane next
+
+-- there was no room
+abbrev pub is_full_reply : LaneReply → Bool
+is_full_reply (replies.Full commands size) = true
+is_full_reply reply = false
+
+abbrev pub is_full_step : Step → Bool
+is_full_step (steps.Full commands size) = true
+is_full_step step = false
+
+-- a text is taken by a lane, now or before
+abbrev pub is_taken_text : LaneReply → Bool
+is_taken_text (replies.Version number) = true
+is_taken_text (replies.States number) = true
+is_taken_text reply = false
+
+-- The lane at a place performs a command, and replies so.
+abbrev pub PerformsAt : {D G C : Type 0} → Outside D G C → ℕ → Command → ℕ → LanesValue D G C → LanesValue D G C
+    → LaneReply → Type 0
+PerformsAt outside today command place old new reply =
+    GoesAt (λ lane next. Performs outside.fault_count lane next today command reply
+    × Continues outside.honest outside.moment outside.left_since outside.fault_count lane next)
+    place old.lanes new.lanes
+    × (new.clock ≡ old.clock) × (new.full ≡ (old.full || is_full_reply reply))
+
+-- It looks its open payments up, up to such a step.
+abbrev pub LooksUpAt : {D G C : Type 0} → Outside D G C → ℕ → ℕ → LanesValue D G C → LanesValue D G C → Step
+    → Type 0
+LooksUpAt outside today place old new step =
+    GoesAt (λ lane next. LooksAllUp outside.fault_count outside.asked outside.said outside.faults today lane next step
+    × Continues outside.honest outside.moment outside.left_since outside.fault_count lane next)
+    place old.lanes new.lanes
+    × (new.clock ≡ old.clock) × (new.full ≡ (old.full || is_full_step step))
+
+-- Its outbox is drained, up to such a step.
+abbrev pub DrainsAt : {D G C : Type 0} → Outside D G C → ℕ → ℕ → LanesValue D G C → LanesValue D G C → Step
+    → Type 0
+DrainsAt outside today place old new step =
+    GoesAt (λ lane next. Drains outside.fault_count outside.asked outside.said outside.faults today lane next step
+    × Continues outside.honest outside.moment outside.left_since outside.fault_count lane next)
+    place old.lanes new.lanes
+    × (new.clock ≡ old.clock) × (new.full ≡ (old.full || is_full_step step))
+
+-- A text goes to the lane at a place and to so many behind it, in order, up to the first that doesn't take it, whose
+-- reply is given.
+abbrev pub TextFrom : {D G C : Type 0} → Outside D G C → ℕ → Command → ℕ → ℕ → LanesValue D G C
+    → LanesValue D G C → LaneReply → Type 0
+TextFrom outside today command place zero old new reply = PerformsAt outside today command place old new reply
+TextFrom outside today command place (suc more) old new reply =
+    (PerformsAt outside today command place old new reply × (is_taken_text reply ≡ false))
+    ⊎ ((between : LanesValue _ _ _) × (first : LaneReply) × PerformsAt outside today command place old between first
+    × (is_taken_text first ≡ true) × TextFrom outside today command (place + 1) more between new reply)
+
+-- So many lanes from a place on look their open payments up, in order, up to the first that isn't done with it.
+abbrev pub LookUpFrom : {D G C : Type 0} → Outside D G C → ℕ → ℕ → ℕ → LanesValue D G C → LanesValue D G C → Step
+    → Type 0
+LookUpFrom outside today place zero old new step = (new ≡ old) × (step ≡ steps.Done)
+LookUpFrom outside today place (suc more) old new step =
+    (LooksUpAt outside today place old new step × (step ≡ steps.Done → ⊥))
+    ⊎ ((between : LanesValue _ _ _) × LooksUpAt outside today place old between steps.Done
+    × LookUpFrom outside today (place + 1) more between new step)
+
+-- So many lanes from a place on are drained, in order, each with memory enough.
+abbrev pub DrainFrom : {D G C : Type 0} → Outside D G C → ℕ → ℕ → ℕ → LanesValue D G C → LanesValue D G C → Type 0
+DrainFrom outside today place zero old new = new ≡ old
+DrainFrom outside today place (suc more) old new = (between : LanesValue _ _ _) × (step : Step)
+    × DrainsAt outside today place old between step × (step ≡ steps.NoMemory → ⊥)
+    × DrainFrom outside today (place + 1) more between new
+
+-- Some of them are, up to one that lacked memory or none.
+abbrev pub DrainPart : {D G C : Type 0} → Outside D G C → ℕ → ℕ → ℕ → LanesValue D G C → LanesValue D G C → Type 0
+DrainPart outside today place zero old new = new ≡ old
+DrainPart outside today place (suc more) old new = (new ≡ old)
+    ⊎ ((between : LanesValue _ _ _) × (step : Step) × DrainsAt outside today place old between step
+    × DrainPart outside today (place + 1) more between new)
+
+-- the account that a request is on; a text and the looking up of payments are on all lanes
+abbrev pub account_on : What → Option (List ℕ)
+account_on (whats.Command command) = if is_text command then None else Some (account_of command)
+account_on (whats.Query query) = Some (asked_account query)
+account_on whats.Janitor = None
+
+-- the first of the lanes that a request is on, and how many there are
+abbrev pub first_lane : ℕ → Option (List ℕ) → ℕ
+first_lane lanes None = 0
+first_lane lanes (Some account) = lane_of account lanes
+
+abbrev pub lanes_on : ℕ → Option (List ℕ) → ℕ
+lanes_on lanes None = lanes
+lanes_on lanes (Some account) = 1
+
+-- what is said to a query: the view, or its refusal, unless memory ran out
+abbrev pub IsShown : Result View Refusal → Said → Type 0
+IsShown (Ok view) (says.View shown) = shown ≡ view
+IsShown (Err refusal) (says.Refused refused) = refused ≡ refusal
+IsShown told (says.Fault faults.NoMemory) = ⊤
+IsShown told other = ⊥
+
+-- A query is answered by the lane at a place, which stays as it is.
+abbrev pub IsShownAt : {D G : Type 0} → ℕ → Query → ℕ → List (LaneValue D G) → Said → Type 0
+IsShownAt today query place lanes spoken = (lane : LaneValue _ _) × (slice_get lanes place ≡ Some lane)
+    × IsShown (view_of (machine_of lane) today query) spoken
+
+-- A command is performed by the lane of its account; a text goes to all lanes.
+abbrev pub ServesCommand : {D G C : Type 0} → Outside D G C → ℕ → Command → Bool → LanesValue D G C
+    → LanesValue D G C → LaneReply → Type 0
+ServesCommand outside today command true old new reply =
+    TextFrom outside today command 0 (length old.lanes - 1) old new reply
+ServesCommand outside today command false old new reply =
+    PerformsAt outside today command (lane_of (account_of command) (length old.lanes)) old new reply
+
+-- What a request does before anything is drained, and what is said to it.
+abbrev pub Serves : {D G C : Type 0} → Outside D G C → ℕ → What → LanesValue D G C → LanesValue D G C → Said
+    → Type 0
+Serves outside today (whats.Command command) old new spoken = (reply : LaneReply) × (spoken ≡ says.Reply reply)
+    × ServesCommand outside today command (is_text command) old new reply
+Serves outside today (whats.Query query) old new spoken =
+    IsShownAt today query (lane_of (asked_account query) (length old.lanes)) old.lanes spoken × (new ≡ old)
+Serves outside today whats.Janitor old new spoken = (step : Step) × (spoken ≡ says.Janitor step)
+    × LookUpFrom outside today 0 (length old.lanes) old new step
+
+-- what is said tells of something that may have been written down
+abbrev pub tells_change : Said → Bool
+tells_change (says.Reply (replies.Accepted answer)) = true
+tells_change (says.Reply (replies.Version number)) = true
+tells_change (says.Reply (replies.States number)) = true
+tells_change (says.Reply replies.DiskFault) = true
+tells_change (says.Janitor step) = true
+tells_change other = false
+
+a_refusal_tells_none : tells_change (says.Reply (replies.Refused refusals.NoAccount)) ≡ false
+a_refusal_tells_none = refl
+
+-- The line that says it: its text. Where there is no memory for that and nothing was written down, it may be the text
+-- of want of memory.
+abbrev pub Says : Said → List ℕ → Type 0
+Says spoken text = (text ≡ say spoken ++ line_feed ∷ [])
+    ⊎ ((tells_change spoken ≡ false) × (text ≡ say (says.Fault faults.NoMemory) ++ line_feed ∷ []))
+
+-- the day of a request: the one that it names, or one that the clock gave
+abbrev pub IsDayOf : {D G C : Type 0} → Outside D G C → C → Option ℕ → ℕ → Type 0
+IsDayOf outside clock (Some named) today = today ≡ named
+IsDayOf outside clock None today = (first_day ≤ today) × (today ≤ last_day)
+    × IfSome (outside.day clock) (λ told. today ≡ told)
+
+-- What a line does, once it is read: a fault is said, and a request is served on its day and said, and then the
+-- outboxes of the lanes that it is on are drained.
+abbrev pub Answers : {D G C : Type 0} → Outside D G C → LanesValue D G C → Result Request RequestFault → List ℕ
+    → LanesValue D G C → Type 0
+Answers outside old (Err fault) text new = Says (says.Fault fault) text × (new ≡ old)
+Answers outside old (Ok request) text new = (today : ℕ) × (served : LanesValue _ _ _) × (spoken : Said)
+    × IsDayOf outside old.clock request.today today × Serves outside today request.what old served spoken
+    × Says spoken text
+    × DrainFrom outside today (first_lane (length old.lanes) (account_on request.what))
+    (lanes_on (length old.lanes) (account_on request.what)) served new
+
+-- What a line may do for which memory ran out: a part of what is said, and some of what is drained.
+abbrev pub IsPartOf : List ℕ → List ℕ → Type 0
+IsPartOf part text = (rest : List ℕ) × (text ≡ part ++ rest)
+
+abbrev pub AnswersPart : {D G C : Type 0} → Outside D G C → LanesValue D G C → Result Request RequestFault → List ℕ
+    → LanesValue D G C → Type 0
+AnswersPart outside old (Err fault) part new = ((text : List ℕ) × Says (says.Fault fault) text × IsPartOf part text)
+    × (new ≡ old)
+AnswersPart outside old (Ok request) part new = (today : ℕ) × (served : LanesValue _ _ _) × (spoken : Said)
+    × IsDayOf outside old.clock request.today today × Serves outside today request.what old served spoken
+    × ((text : List ℕ) × Says spoken text × IsPartOf part text)
+    × DrainPart outside today (first_lane (length old.lanes) (account_on request.what))
+    (lanes_on (length old.lanes) (account_on request.what)) served new
+
+-- The machine of lanes: it answers a line by what is read of it.
+abbrev pub lanes_machine : {D G C : Type 0} → Outside D G C → Machine (LanesValue D G C) (List ℕ)
+lanes_machine outside = record {
+  step = λ old line text new. (read : Result Request RequestFault) × IsAsked read (ask true line)
+      × Answers outside old read text new;
+  cut = λ old line part new. (read : Result Request RequestFault) × IsAsked read (ask true line)
+      × AnswersPart outside old read part new;
+}

@@ -1,0 +1,3 @@
+pub mod Applying
+pub mod Continuing
+pub mod LaneRuns

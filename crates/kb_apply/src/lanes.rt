@@ -1,0 +1,156 @@
+//! Lanes, beside the clock by which they answer.
+ghost use Rattle.std.specs.Prelude.{◌≡◌, ◌≤◌, ◌<◌, true, false, length};
+ghost use Rattle.kb_machine.specs.Machines.{is_callers};
+ghost use Rattle.kb_lane.specs.Replies.{Performs};
+ghost use Rattle.kb_desk.specs.Lanes.{lane_of};
+ghost use Rattle.kb_apply.specs.Continuing.{Continues};
+ghost use Rattle.kb_apply.specs.LaneRuns.{outside_of, is_full_reply, is_full_step, GoesAt, IsDayOf, PerformsAt};
+
+use kb_clock::Clock;
+use kb_codec::Command;
+use kb_days::{Day, Name};
+use kb_desk::lane_of;
+use kb_disk::Disk;
+use kb_gateway::Gateway;
+use kb_lane::Lane;
+use kb_reply::{LaneReply, Step};
+use std::alloc::Global;
+use std::marker::Model;
+
+/// Lanes, numbered from 0, with the clock that gives the day of a line that names none. There is at least one lane,
+/// and there are at most 64.
+#[derive(Drop)]
+pub struct Lanes<D: Disk, G: Gateway + Drop, C: Clock + Drop> {
+    pub(crate) lanes: Vec<Lane<D, G>>,
+    pub(crate) clock: C,
+    /// Whether a lane had no room for a command.
+    pub(crate) full: bool,
+}
+
+impl<D: Disk, G: Gateway + Drop, C: Clock + Drop> Model for Lanes<D, G, C> {
+    ghost use Rattle.std.specs.Prelude.{◌≤◌, length};
+    ghost use Rattle.kb_apply.specs.LaneRuns.{LanesValue};
+
+    ghost Value = { LanesValue D G C };
+
+    ghost view = { λ lanes. record {
+      lanes = lanes.lanes.items;
+      clock = lanes.clock;
+      full = lanes.full;
+    } };
+
+    ghost invariant = { λ lanes. (1 ≤ length lanes.lanes.items) × (length lanes.lanes.items ≤ 64) };
+}
+
+impl<D: Disk, G: Gateway + Drop, C: Clock + Drop> Lanes<D, G, C> {
+    /// These lanes, with this clock. None of them was full yet.
+    pub fn new(lanes: Vec<Lane<D, G>>, clock: C) -> Lanes<D, G, C>
+        requires some { 1 ≤ length lanes.items }
+        requires few { length lanes.items ≤ 64 }
+        ensures lanes { result.lanes ≡ lanes.items }
+        ensures clock { result.clock ≡ clock }
+        ensures full { result.full ≡ false }
+    {
+        Lanes {
+            lanes,
+            clock,
+            full: false,
+        }
+    }
+
+    /// The lanes.
+    pub fn into_lanes(self) -> Vec<Lane<D, G>>
+        ensures { result.items ≡ self.lanes }
+    {
+        self.lanes
+    }
+
+    /// Whether a lane had no room for a command.
+    pub fn is_full(&self) -> bool
+        ensures { result ≡ self.now.full }
+    {
+        self.full
+    }
+
+    /// How many lanes there are.
+    pub(crate) fn count(&self) -> usize
+        ensures count { result ≡ length self.now.lanes }
+        ensures some { 1 ≤ result }
+        ensures few { result ≤ 64 }
+    {
+        self.lanes.len()
+    }
+
+    /// The place of the lane of an account.
+    pub(crate) fn place_of(&self, account: Name) -> usize
+        ensures place { result ≡ lane_of account (length self.now.lanes) }
+        ensures within { result < length self.now.lanes }
+    {
+        lane_of(account, self.lanes.len() as u32) as usize
+    }
+
+    /// The day of a request: the one that it names, or today by the clock.
+    pub(crate) fn day_of(&self, named: Option<Day>) -> Day
+        ensures { IsDayOf (outside_of D.honest D.moment D.left_since D.fault_count G.asked G.said G.faults C.day) self.now.clock named result }
+    {
+        match named {
+            Some(day) => day,
+            None => self.clock.today(),
+        }
+    }
+
+    /// The lane at a place performs a command.
+    pub(crate) fn perform_at(
+        &mut self,
+        alloc: Global,
+        today: Day,
+        command: &Command,
+        place: usize,
+    ) -> LaneReply
+        requires callers { is_callers command.now ≡ true }
+        requires within { place < length self.old.lanes }
+        ensures performed { PerformsAt (outside_of D.honest D.moment D.left_since D.fault_count G.asked G.said G.faults C.day) today command.now place self.old self.new result }
+        ensures count { length self.new.lanes ≡ length self.old.lanes }
+    {
+        let reply = perform_in(&mut self.lanes, alloc, today, command, place);
+        self.full |= is_full_reply(reply);
+        reply
+    }
+}
+
+/// One of some lanes performs a command.
+fn perform_in<D: Disk, G: Gateway + Drop>(
+    lanes: &mut Vec<Lane<D, G>>,
+    alloc: Global,
+    today: Day,
+    command: &Command,
+    place: usize,
+) -> LaneReply
+    requires callers { is_callers command.now ≡ true }
+    requires within { place < length lanes.old.items }
+    ensures performed { GoesAt (λ lane next. Performs D.fault_count lane next today command.now result
+        × Continues D.honest D.moment D.left_since D.fault_count lane next) place lanes.old.items lanes.new.items }
+    ensures count { length lanes.new.items ≡ length lanes.old.items }
+{
+    lanes[place].perform(alloc, today, command)
+}
+
+/// Whether there was no room for a command.
+fn is_full_reply(reply: LaneReply) -> bool
+    ensures { result ≡ is_full_reply reply }
+{
+    match reply {
+        LaneReply::Full { .. } => true,
+        _ => false,
+    }
+}
+
+/// Whether there was no room for what a step was to write down.
+pub(crate) fn is_full_step(step: Step) -> bool
+    ensures { result ≡ is_full_step step }
+{
+    match step {
+        Step::Full { .. } => true,
+        _ => false,
+    }
+}

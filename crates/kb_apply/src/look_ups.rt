@@ -1,0 +1,62 @@
+//! Payments whose outcome isn't known, looked up by all lanes.
+ghost use Rattle.std.specs.Prelude.{◌≡◌, ◌<◌, length};
+ghost use Rattle.kb_lane.specs.LookingUp.{LooksAllUp};
+ghost use Rattle.kb_apply.specs.Continuing.{Continues};
+ghost use Rattle.kb_apply.specs.LaneRuns.{outside_of, GoesAt, LookUpFrom, LooksUpAt};
+
+use crate::Lanes;
+use crate::lanes::is_full_step;
+use kb_clock::Clock;
+use kb_days::Day;
+use kb_disk::Disk;
+use kb_gateway::Gateway;
+use kb_lane::Lane;
+use kb_reply::Step;
+use std::alloc::Global;
+
+impl<D: Disk, G: Gateway + Drop, C: Clock + Drop> Lanes<D, G, C> {
+    /// Has the lanes look their open payments up, in order, up to the first that isn't done with it, and gives the
+    /// last step.
+    pub(crate) fn look_up_all(&mut self, alloc: Global, today: Day) -> Step
+        ensures looked { LookUpFrom (outside_of D.honest D.moment D.left_since D.fault_count G.asked G.said G.faults C.day) today 0
+            (length self.old.lanes) self.old self.new result }
+        ensures count { length self.new.lanes ≡ length self.old.lanes }
+    {
+        let count = self.count();
+        for place in 0..count {
+            match self.look_up_at(alloc, today, place) {
+                Step::Done => {}
+                step => return step,
+            }
+        }
+        Step::Done
+    }
+
+    /// Has the lane at a place look its open payments up.
+    fn look_up_at(&mut self, alloc: Global, today: Day, place: usize) -> Step
+        requires within { place < length self.old.lanes }
+        ensures looked { LooksUpAt (outside_of D.honest D.moment D.left_since D.fault_count G.asked G.said G.faults C.day) today place
+            self.old self.new result }
+        ensures count { length self.new.lanes ≡ length self.old.lanes }
+    {
+        let step = look_up_in(&mut self.lanes, alloc, today, place);
+        self.full |= is_full_step(step);
+        step
+    }
+}
+
+/// One of some lanes looks its open payments up.
+fn look_up_in<D: Disk, G: Gateway + Drop>(
+    lanes: &mut Vec<Lane<D, G>>,
+    alloc: Global,
+    today: Day,
+    place: usize,
+) -> Step
+    requires within { place < length lanes.old.items }
+    ensures looked { GoesAt
+        (λ lane next. LooksAllUp D.fault_count G.asked G.said G.faults today lane next result
+        × Continues D.honest D.moment D.left_since D.fault_count lane next) place lanes.old.items lanes.new.items }
+    ensures count { length lanes.new.items ≡ length lanes.old.items }
+{
+    lanes[place].janitor(alloc, today)
+}
