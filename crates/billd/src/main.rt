@@ -1,19 +1,34 @@
 //! `billd`: subscription billing.
 //!
-//! The program is the top call of the library `kb_billd` over the process's own words and streams, and
-//! promises what that call's clauses say.
+//! The program is the top call of the library `kb_billd` over the process's own words, streams, folders, connections
+//! and clock, and promises what that call's clauses say.
 #![tactic(auto)]
 
-use kb_billd::{StdSink, StdSource, Stop, billd, close, status_of};
+use kb_billd::{StdSink, StdSource, billd};
+use kb_clock::SystemClock;
+use kb_endings::{Stop, close};
+use kb_folders::FolderVault;
+use kb_line_gateway::LineMarket;
+use kb_ports::NoMemory;
 use std::process::ExitCode;
 use std::{env, io};
 
 fn main(rt: HostRuntime) -> ExitCode {
     let mut input = StdSource::new(rt.stdin());
     let mut output = StdSink::new(rt.stdout());
+    let mut vault = FolderVault::new(rt.alloc(), &rt);
+    let mut market = LineMarket::new(&rt);
     let status = match words(&rt) {
-        Ok(words) => billd(&rt, rt.alloc(), &words, &mut input, &mut output),
-        Err(stop) => status_of(close(&mut output, Err(stop))),
+        Ok(words) => billd(
+            rt.alloc(),
+            &words,
+            &mut input,
+            &mut output,
+            &mut vault,
+            &mut market,
+            SystemClock::new(&rt),
+        ),
+        Err(stop) => close(rt.alloc(), &mut output, Err(stop)),
     };
     ExitCode::from(status)
 }
@@ -24,7 +39,7 @@ fn words(rt: &HostRuntime) -> Result<Vec<String>, Stop> {
         Ok(args) => args,
         Err(error) => {
             return Err(match error.kind() {
-                io::ErrorKind::OutOfMemory => Stop::Memory,
+                io::ErrorKind::OutOfMemory => NoMemory.into(),
                 _ => Stop::Words,
             });
         }

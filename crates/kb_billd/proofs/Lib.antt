@@ -1,18 +1,4 @@
-pub mod Among
-pub mod Backwards
-pub mod CellTests
-pub mod Closed
-pub mod DayCosts
-pub mod DaysTexts
-pub mod Determined
-pub mod DueCells
-pub mod NumberedItems
-pub mod OneWord
-pub mod OnlyRuns
-pub mod Performed
-pub mod Reversed
-pub mod Stepped
-pub mod Totalled
-pub mod Transferred
-pub mod Uncut
-pub mod Windows
+mod Applied
+mod Causes
+mod Founded
+mod Untouched

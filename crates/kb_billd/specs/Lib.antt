@@ -1,7 +1,4 @@
-pub mod FirstBook
-pub mod FirstCommand
-pub mod FirstStep
+pub mod Foundings
 pub mod Private
-pub mod Reading
-pub mod Stop
+pub mod Runs
 pub mod TopCall

@@ -1,49 +1,103 @@
--- What the program reads and writes, by the way in which it ends.
-use Rattle.std.specs.Prelude.{ℕ, ◌≡◌, List, [], ◌∷◌, ◌++◌, codes}
-use Rattle.std.specs.Io.KnownBytes.{Appends, Keeps}
-use Rattle.kb_base.specs.Stream.{IsGivenUp}
-use Rattle.kb_billd.specs.declared.stop.Stop.{Stop}
-use Rattle.kb_billd.specs.declared.stop.Stop.TheVariants.{Words, Input, Output, Memory, LineTooLong}
-use Rattle.kb_billd.specs.declared.stop.Stop.TheVariants.{InputTooLong}
-use Rattle.kb_billd.specs.Stop.{last_line}
-use Rattle.kb_billd.specs.Reading.{Known, Transfers, Ends, IsStopped}
-use Rattle.kb_billd.specs.FirstBook.{Book, empty_book}
-use Rattle.kb_billd.specs.FirstStep.{first_machine}
+-- What the program does by its words.
+use Rattle.std.specs.Prelude.{ℕ, ◌≡◌, ◌≤◌, ◌⊎◌, Bool, List, codes, bytes_eq, if◌then◌else◌, Option, Some, None, IfSome, refl}
+use Rattle.std.specs.Prelude.{Result, Err}
+use Rattle.std.specs.Io.KnownBytes.{Keeps}
+use Rattle.kb_days.specs.Calendar.{first_day, last_day}
+use Rattle.kb_lines.specs.Reading.{Known}
+use Rattle.kb_lines.specs.declared.stop.Stop.TheVariants as runs
+use Rattle.kb_words.specs.declared.words.Init.{Init}
+use Rattle.kb_words.specs.declared.words.Words.{Words}
+use Rattle.kb_words.specs.declared.words.Words.TheVariants as words
+use Rattle.kb_vault.specs.Places.{SameLanes, SameFiles}
+use Rattle.kb_apply.specs.LaneRuns.{Outside, outside_of}
+use Rattle.kb_opening.specs.Folders.{VaultTold, DiskWords}
+use Rattle.kb_opening.specs.declared.no_market.NoGateway.{NoGateway}
+use Rattle.kb_endings.specs.Endings.{Closes}
+use Rattle.kb_endings.specs.declared.stop.Stop.{Stop}
+use Rattle.kb_endings.specs.declared.stop.Stop.TheVariants as stops
+use Rattle.kb_billd.specs.Foundings.{FoundsFolder}
+use Rattle.kb_billd.specs.Runs.{AppliesFolder}
 
--- the words are in the grammar: the one word `apply`
-abbrev pub AreWords : List (List ℕ) → Type 0
-AreWords words = words ≡ codes "apply" ∷ []
+-- what is told of lanes without a gateway: it was asked nothing that is told, and never fails
+abbrev pub alone : {D C : Type 0} → (D → Bool) → (D → ℕ) → (D → ℕ → List ℕ → Type 0) → (D → ℕ) → (C → Option ℕ)
+    → Outside D NoGateway C
+alone honest moment left_since fault_count day =
+    outside_of honest moment left_since fault_count (λ gateway. None) (λ gateway. None) (λ gateway. 0) day
 
--- the input was read to its end, and its lines were answered on an empty book
-abbrev pub Completes : List (List ℕ) → Known → Known → Known → Known → Type 0
-Completes words left left_after written written_after =
-    AreWords words
-    × ((last : Book) × Ends first_machine empty_book left left_after written written_after last)
+-- What is told around the program: what is left of its input, what is written of its output, its vault, and how often
+-- its market has failed.
+pub record Around : Type 0 where
+  pub left : Known
+  pub written : Known
+  pub vault : VaultTold
+  pub market : ℕ
 
--- a run on an empty book was stopped, and the last output line was written behind its answers
-abbrev pub ClosesBy : Stop → List (List ℕ) → Known → Known → Known → Known → Type 0
-ClosesBy stop words left left_after written written_after =
-    AreWords words × Transfers left left_after written written_after (λ bytes text.
-    (last : Book) × (answers : List ℕ) × (text ≡ answers ++ last_line stop)
-    × IsStopped first_machine empty_book stop bytes answers last)
+abbrev pub around_of : Known → Known → VaultTold → ℕ → Around
+around_of left written vault market = record { left = left; written = written; vault = vault; market = market }
 
--- of the answers to some first lines, and of a last output line behind them, a first part was written
-abbrev pub IsPartWritten : List ℕ → List ℕ → Type 0
-IsPartWritten bytes text =
-    (stop : Stop) × (last : Book) × (answers : List ℕ) × (unwritten : List ℕ)
-    × (text ++ unwritten ≡ answers ++ last_line stop) × IsGivenUp first_machine empty_book bytes answers last
+-- Nothing is read, written or changed.
+pub record IsUntouched (old new : Around) : Type 0 where
+  pub unread : Keeps old.left new.left
+  pub unwritten : Keeps old.written new.written
+  pub inside : SameLanes new.vault.is_out old.vault.is_out
+  pub lanes : SameLanes new.vault.lane_bytes old.vault.lane_bytes
+  pub files : SameFiles new.vault.file_bytes old.vault.file_bytes
+  pub faults : new.vault.faults ≡ old.vault.faults
+  pub market : new.market ≡ old.market
 
--- what was read and written when the program was stopped
-abbrev pub Closes : Stop → List (List ℕ) → Known → Known → Known → Known → Type 0
-Closes Words words left left_after written written_after =
-    (AreWords words → ⊥) × Keeps left left_after × Appends written written_after (last_line Words)
-Closes Output words left left_after written written_after =
-    Transfers left left_after written written_after IsPartWritten
-Closes Input words left left_after written written_after =
-    ClosesBy Input words left left_after written written_after
-Closes Memory words left left_after written written_after =
-    ClosesBy Memory words left left_after written written_after
-Closes LineTooLong words left left_after written written_after =
-    ClosesBy LineTooLong words left left_after written written_after
-Closes InputTooLong words left left_after written written_after =
-    ClosesBy InputTooLong words left left_after written written_after
+-- the gateway that a market is asked for; for `none`, and where none is named, no market is asked
+abbrev pub gateway_of : Option (List ℕ) → Option (List ℕ)
+gateway_of None = None
+gateway_of (Some name) = if bytes_eq name (codes "none") then None else Some name
+
+no_market : gateway_of (Some (codes "none")) ≡ None
+no_market = refl
+
+a_market : gateway_of (Some (codes "localhost:9000")) ≡ Some (codes "localhost:9000")
+a_market = refl
+
+-- `apply`, by the gateway: with one of a market, or with none.
+abbrev pub AppliesBy : {D G N C : Type 0} → DiskWords D → Outside D G C → Outside D N C → List ℕ → C → Around → Around
+    → Result (Unit {0}) Stop → Option (List ℕ) → Type 0
+AppliesBy disks outside alone folder clock old new outcome (Some name) =
+    AppliesFolder disks outside folder clock old.vault new.vault old.market new.market old.left new.left old.written
+    new.written outcome
+AppliesBy disks outside alone folder clock old new outcome None = (new.market ≡ old.market)
+    × AppliesFolder disks alone folder clock old.vault new.vault 0 0 old.left new.left old.written new.written outcome
+
+-- a day that a clock gave, by the day that it tells to give
+abbrev pub IsToday : Option ℕ → ℕ → Type 0
+IsToday told today = (first_day ≤ today) × (today ≤ last_day) × IfSome told (λ day. today ≡ day)
+
+-- `init`, on a day of the clock. It reads no input and writes no answers.
+pub record Founds (told : Option ℕ) (init : Init) (old new : Around) (outcome : Result (Unit {0}) Stop) : Type 0 where
+  pub today : ℕ
+  pub day : IsToday told today
+  pub founded : FoundsFolder today init old.vault new.vault outcome
+  pub unread : Keeps old.left new.left
+  pub unwritten : Keeps old.written new.written
+  pub market : new.market ≡ old.market
+
+-- What the words ask for is done, up to the last output line. Words that aren't in the grammar, or whose command isn't
+-- built yet, do nothing.
+abbrev pub Does : {D G N C : Type 0} → DiskWords D → Outside D G C → Outside D N C → C → Around → Around
+    → Result (Unit {0}) Stop → Option Words → Type 0
+Does disks outside alone clock old new outcome (Some (words.Init init)) =
+    Founds (outside.day clock) init old new outcome
+Does disks outside alone clock old new outcome (Some (words.Apply apply)) =
+    AppliesBy disks outside alone apply.dir clock old new outcome (gateway_of apply.gateway)
+Does disks outside alone clock old new outcome other = (outcome ≡ Err stops.Words) × IsUntouched old new
+
+-- It is done, unless memory runs out before anything is.
+abbrev pub Begins : {D G N C : Type 0} → DiskWords D → Outside D G C → Outside D N C → C → Around → Around
+    → Result (Unit {0}) Stop → Option Words → Type 0
+Begins disks outside alone clock old new outcome words = Does disks outside alone clock old new outcome words
+    ⊎ ((outcome ≡ Err (stops.Run runs.Memory)) × IsUntouched old new)
+
+-- And then the last output line is written, and the status is that of how it ended.
+pub record Ends {D G N C : Type 0} (disks : DiskWords D) (outside : Outside D G C) (alone : Outside D N C) (clock : C)
+    (words : Option Words) (old new : Around) (status : ℕ) : Type 0 where
+  pub outcome : Result (Unit {0}) Stop
+  pub written : Known
+  pub done : Begins disks outside alone clock old (record new { written = written }) outcome words
+  pub closed : Closes outcome status written new.written

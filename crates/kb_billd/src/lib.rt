@@ -1,18 +1,14 @@
-//! The program as a library: the top call `billd`, over words, a source and a sink.
+//! The program as a library: the top call `billd`, over words, a source, a sink, a vault, a market and a clock.
 //!
-//! What the program promises stands in that call's clauses: the bytes written are the answers of the
-//! machine to the lines read, and after each line each day has exactly the charge that is due. `first`
-//! is the machine, `reading` runs any machine over a stream, `adapter` has the streams of the process.
+//! What the program promises stands in that call's clauses: the lines of the input are answered by the lanes of a
+//! folder, each of which begins with the history that its bytes stand for and ends with bytes that stand for its last
+//! one; each day of each account then has exactly the charge that is due, or none; and no payment is asked for twice.
+//! `command` has what each command does, and `adapter` the streams of the process.
 #![tactic(auto)]
 
 mod adapter;
-mod first;
-mod reading;
-mod stop;
+mod command;
 mod top;
 
 pub use adapter::{StdSink, StdSource};
-pub use first::{Dates, FirstBook, FirstCommand, apply_first};
-pub use reading::{LineMachine, MAX_INPUT, MAX_LINE, run_lines};
-pub use stop::{Stop, status_of};
-pub use top::{billd, close};
+pub use top::billd;

@@ -1,109 +1,184 @@
-//! The top call: what the program does with its words, its input and its output.
-ghost use Rattle.std.specs.Prelude.{◌≡◌, ◌⊎◌, ◌≤◌, ◌↔◌, map, codes, string_bytes};
-ghost use Rattle.std.specs.Prelude.{Err, IsTrue, IsOk, OnOk, IfErr};
+//! The top call: what the program does with its words.
+ghost use Rattle.std.specs.Prelude.{◌≡◌, ◌≤◌, ◌⊎◌, ℕ, List, Err, Some, None, false, map, option_copied, string_bytes};
 ghost use Rattle.kb_base.specs.Faults.{Rose};
-ghost use Rattle.kb_billd.specs.declared.stop.Stop.{Stop};
-ghost use Rattle.kb_billd.specs.declared.stop.Stop.TheVariants.{Input, Output};
-ghost use Rattle.kb_billd.specs.Stop.{stop_status, IsStatus};
-ghost use Rattle.kb_billd.specs.Reading.{IsOnlyRun};
-ghost use Rattle.kb_billd.specs.FirstBook.{Book, empty_book};
-ghost use Rattle.kb_billd.specs.FirstStep.{first_machine};
-ghost use Rattle.kb_billd.specs.TopCall.{AreWords, Closes, Completes};
-ghost use Rattle.kb_billd.specs.Private.Closing.{BeginsBy, HasClosed};
+ghost use Rattle.kb_apply.specs.LaneRuns.{outside_of};
+ghost use Rattle.kb_lines.specs.declared.stop.Stop.TheVariants.{Input, Output};
+ghost use Rattle.kb_vault.specs.Places.{SameLanes};
+ghost use Rattle.kb_opening.specs.Folders.{told_of, words_of};
+ghost use Rattle.kb_words.specs.Grammar.{words_of as words_read};
+ghost use Rattle.kb_endings.specs.declared.stop.Stop.TheVariants as stops;
+ghost use Rattle.kb_billd.specs.TopCall.{alone, around_of, gateway_of, AppliesBy, Begins, Does, Ends, IsToday};
+ghost use Rattle.kb_billd.specs.Foundings.{FoundsFolder};
 
-use crate::first::FirstBook;
-use crate::reading::run_lines;
-use crate::stop::{Stop, status_of};
-use kb_ports::{Failed, Sink, Source, write_all};
+use crate::command::{apply_folder, init_folder};
+use kb_clock::Clock;
+use kb_endings::{Stop, close};
+use kb_gateway::Market;
+use kb_lines::Stop as RunStop;
+use kb_opening::NoMarket;
+use kb_ports::{Sink, Source};
+use kb_vault::Vault;
+use kb_words::{Apply, Init, Text, Words, WordsFault, read_words};
 use std::alloc::Global;
 
-/// Does what the words say, which are those behind the program's name, and gives the exit status.
-pub fn billd<R, I: Source, O: Sink>(
-    _rt: &R,
+/// Does what the words say, which are those behind the program's name, and gives the exit status. No lane may be
+/// out of the vault.
+pub fn billd<I: Source, O: Sink, V: Vault, M: Market, C: Clock + Drop>(
     alloc: Global,
     words: &Vec<String>,
     input: &mut I,
     output: &mut O,
+    vault: &mut V,
+    market: &mut M,
+    clock: C,
 ) -> u8
-    ensures done { result ≡ 0 → Completes (map string_bytes words.now.items)
-        (I.left input.old) (I.left input.new) (O.written output.old) (O.written output.new) }
-    ensures stopped { (stop : Stop) → result ≡ stop_status stop
-        → Closes stop (map string_bytes words.now.items)
-        (I.left input.old) (I.left input.new) (O.written output.old) (O.written output.new) }
-    ensures only { result ≡ 0 → (last : Book) × IsOnlyRun first_machine empty_book
-        (I.left input.old) (O.written output.old) (O.written output.new) last }
-    ensures status { IsStatus result }
-
-    // A fault of the source or the sink comes only where its count rose; without one it stands still.
-    // With 4 the source may have failed too, before the last output line did.
+    requires inside { (folder : List ℕ) (lane : ℕ) → V.is_out vault.old folder lane ≡ false }
+    ensures ends { Ends (words_of V.Disk.honest V.Disk.seen V.Disk.images V.Disk.fault_count)
+        (outside_of V.Disk.honest V.Disk.moment V.Disk.left_since V.Disk.fault_count M.Gateway.asked M.Gateway.said
+        M.Gateway.faults C.day)
+        (alone V.Disk.honest V.Disk.moment V.Disk.left_since V.Disk.fault_count C.day) clock (words_read (map string_bytes words.now.items))
+        (around_of (I.left input.old) (O.written output.old)
+        (told_of V.is_out V.lane_bytes V.file_bytes V.faults vault.old) (M.faults market.old))
+        (around_of (I.left input.new) (O.written output.new)
+        (told_of V.is_out V.lane_bytes V.file_bytes V.faults vault.new) (M.faults market.new)) result }
     ensures input { result ≡ 3 → Rose (I.faults input.old) (I.faults input.new) }
     ensures output { result ≡ 4 → Rose (O.faults output.old) (O.faults output.new) }
-    ensures input_calm { (result ≡ 3 → ⊥) → (result ≡ 4 → ⊥) → I.faults input.new ≡ I.faults input.old }
-    ensures output_calm { (result ≡ 4 → ⊥) → O.faults output.new ≡ O.faults output.old }
+    ensures inside { SameLanes (V.is_out vault.new) (V.is_out vault.old) }
+    ensures disk { result ≡ 5 → Rose (V.faults vault.old) (V.faults vault.new) }
+    ensures market { result ≡ 10 → Rose (M.faults market.old) (M.faults market.new) }
 {
-    let run = begin(alloc, words, input, output);
-    status_of(close(output, run))
+    let run = begin(alloc, words, input, output, vault, market, clock);
+    close(alloc, output, run)
 }
 
 /// Does what the words say, up to the last output line.
-fn begin<I: Source, O: Sink>(
+#[tactic(auto, using(crate::proofs::Untouched::untouched))]
+fn begin<I: Source, O: Sink, V: Vault, M: Market, C: Clock + Drop>(
     alloc: Global,
-    words: &[String],
+    words: &Vec<String>,
     input: &mut I,
     output: &mut O,
+    vault: &mut V,
+    market: &mut M,
+    clock: C,
 ) -> Result<(), Stop>
-    ensures ok { OnOk result (Completes (map string_bytes words.now)
-        (I.left input.old) (I.left input.new) (O.written output.old) (O.written output.new)) }
-    ensures err { IfErr result (λ stop. BeginsBy stop (map string_bytes words.now)
-        (I.left input.old) (I.left input.new) (O.written output.old) (O.written output.new)) }
-    ensures input { result ≡ Err Input → Rose (I.faults input.old) (I.faults input.new) }
-    ensures output { result ≡ Err Output → Rose (O.faults output.old) (O.faults output.new) }
-    ensures input_calm { (result ≡ Err Input → ⊥) → I.faults input.new ≡ I.faults input.old }
-    ensures output_calm { (result ≡ Err Output → ⊥) → O.faults output.new ≡ O.faults output.old }
+    requires inside { (folder : List ℕ) (lane : ℕ) → V.is_out vault.old folder lane ≡ false }
+    ensures begins { Begins (words_of V.Disk.honest V.Disk.seen V.Disk.images V.Disk.fault_count)
+        (outside_of V.Disk.honest V.Disk.moment V.Disk.left_since V.Disk.fault_count M.Gateway.asked M.Gateway.said
+        M.Gateway.faults C.day)
+        (alone V.Disk.honest V.Disk.moment V.Disk.left_since V.Disk.fault_count C.day) clock
+        (around_of (I.left input.old) (O.written output.old)
+        (told_of V.is_out V.lane_bytes V.file_bytes V.faults vault.old) (M.faults market.old))
+        (around_of (I.left input.new) (O.written output.new)
+        (told_of V.is_out V.lane_bytes V.file_bytes V.faults vault.new) (M.faults market.new))
+        result (words_read (map string_bytes words.now.items)) }
+    ensures input { result ≡ Err (stops.Run Input) → Rose (I.faults input.old) (I.faults input.new) }
+    ensures output { result ≡ Err (stops.Run Output) → Rose (O.faults output.old) (O.faults output.new) }
     ensures output_rising { O.faults output.old ≤ O.faults output.new }
 {
-    if !are_words(words) {
-        return Err(Stop::Words);
-    }
-    let mut book = FirstBook::new(alloc);
-    match run_lines(alloc, &mut book, input, output) {
-        Ok(()) => Ok(()),
-        Err(stop) => Err(stop),
+    match read_words(alloc, words) {
+        Ok(words) => act(alloc, &words, input, output, vault, market, clock),
+        Err(WordsFault::Words) => Err(Stop::Words),
+        Err(WordsFault::NoMemory) => Err(Stop::Run(RunStop::Memory)),
     }
 }
 
-/// Whether the words are the one word `apply`.
-fn are_words(words: &[String]) -> bool
-    ensures { IsTrue result ↔ AreWords (map string_bytes words.now) }
+/// Does what words of the grammar say, up to the last output line.
+#[tactic(auto, using(crate::proofs::Untouched::untouched))]
+fn act<I: Source, O: Sink, V: Vault, M: Market, C: Clock + Drop>(
+    alloc: Global,
+    words: &Words,
+    input: &mut I,
+    output: &mut O,
+    vault: &mut V,
+    market: &mut M,
+    clock: C,
+) -> Result<(), Stop>
+    requires inside { (folder : List ℕ) (lane : ℕ) → V.is_out vault.old folder lane ≡ false }
+    ensures does { Does (words_of V.Disk.honest V.Disk.seen V.Disk.images V.Disk.fault_count)
+        (outside_of V.Disk.honest V.Disk.moment V.Disk.left_since V.Disk.fault_count M.Gateway.asked M.Gateway.said
+        M.Gateway.faults C.day)
+        (alone V.Disk.honest V.Disk.moment V.Disk.left_since V.Disk.fault_count C.day) clock
+        (around_of (I.left input.old) (O.written output.old)
+        (told_of V.is_out V.lane_bytes V.file_bytes V.faults vault.old) (M.faults market.old))
+        (around_of (I.left input.new) (O.written output.new)
+        (told_of V.is_out V.lane_bytes V.file_bytes V.faults vault.new) (M.faults market.new))
+        result (Some words.now) }
+    ensures input { result ≡ Err (stops.Run Input) → Rose (I.faults input.old) (I.faults input.new) }
+    ensures output { result ≡ Err (stops.Run Output) → Rose (O.faults output.old) (O.faults output.new) }
+    ensures output_rising { O.faults output.old ≤ O.faults output.new }
 {
     match words {
-        [word] => is_apply(word),
-        _ => false,
+        Words::Init(init) => init_on(alloc, vault, init, &clock),
+        Words::Apply(apply) => apply_by(alloc, apply, input, output, vault, market, clock),
+        Words::Bill(_) | Words::Serve(_) | Words::Report(_) | Words::Make(_) => Err(Stop::Words),
     }
 }
 
-/// Whether a word is `apply`.
-fn is_apply(word: &String) -> bool
-    ensures { IsTrue result ↔ (string_bytes word.now ≡ codes "apply") }
+/// Makes the lanes of a folder, on the clock's day.
+fn init_on<V: Vault, C: Clock>(
+    alloc: Global,
+    vault: &mut V,
+    init: &Init,
+    clock: &C,
+) -> Result<(), Stop>
+    requires inside { (lane : ℕ) → V.is_out vault.old init.now.dir lane ≡ false }
+    ensures { (today : ℕ) × IsToday (C.day clock.now) today × FoundsFolder today init.now
+        (told_of V.is_out V.lane_bytes V.file_bytes V.faults vault.old)
+        (told_of V.is_out V.lane_bytes V.file_bytes V.faults vault.new) result }
 {
-    word.as_str() == "apply"
+    init_folder(alloc, vault, clock.today(), init)
 }
 
-/// Writes the last output line of a run that was stopped.
-pub fn close<O: Sink>(output: &mut O, run: Result<(), Stop>) -> Result<(), Stop>
-    ensures ok { OnOk result (IsOk run × (O.written output.new ≡ O.written output.old)) }
-    ensures err { IfErr result (λ stop. HasClosed stop run (O.written output.old) (O.written output.new)) }
-    ensures input { result ≡ Err Input → run ≡ Err Input }
-    ensures output { result ≡ Err Output
-        → (run ≡ Err Output) ⊎ Rose (O.faults output.old) (O.faults output.new) }
-    ensures calm { (result ≡ Err Output → ⊥) → O.faults output.new ≡ O.faults output.old }
-    ensures rising { O.faults output.old ≤ O.faults output.new }
+/// Answers the lines of the input by the lanes of a folder, with the gateway that is named, or with none.
+fn apply_by<I: Source, O: Sink, V: Vault, M: Market, C: Clock + Drop>(
+    alloc: Global,
+    apply: &Apply,
+    input: &mut I,
+    output: &mut O,
+    vault: &mut V,
+    market: &mut M,
+    clock: C,
+) -> Result<(), Stop>
+    requires inside { (lane : ℕ) → V.is_out vault.old apply.now.dir lane ≡ false }
+    ensures applied { AppliesBy (words_of V.Disk.honest V.Disk.seen V.Disk.images V.Disk.fault_count)
+        (outside_of V.Disk.honest V.Disk.moment V.Disk.left_since V.Disk.fault_count M.Gateway.asked M.Gateway.said
+        M.Gateway.faults C.day)
+        (alone V.Disk.honest V.Disk.moment V.Disk.left_since V.Disk.fault_count C.day) apply.now.dir clock
+        (around_of (I.left input.old) (O.written output.old)
+        (told_of V.is_out V.lane_bytes V.file_bytes V.faults vault.old) (M.faults market.old))
+        (around_of (I.left input.new) (O.written output.new)
+        (told_of V.is_out V.lane_bytes V.file_bytes V.faults vault.new) (M.faults market.new))
+        result (gateway_of apply.now.gateway) }
+    ensures input { result ≡ Err (stops.Run Input) → Rose (I.faults input.old) (I.faults input.new) }
+    ensures output { result ≡ Err (stops.Run Output) → Rose (O.faults output.old) (O.faults output.new) }
+    ensures output_rising { O.faults output.old ≤ O.faults output.new }
 {
-    let Err(stop) = run else {
-        return Ok(());
-    };
-    match write_all(output, stop.last_line()) {
-        Ok(()) => Err(stop),
-        Err(Failed) => Err(Stop::Output),
+    let folder = apply.dir.as_str();
+    match gateway_of(&apply.gateway) {
+        Some(gateway) => apply_folder(alloc, folder, gateway, input, output, vault, market, clock),
+        None => apply_folder(
+            alloc,
+            folder,
+            NO_GATEWAY,
+            input,
+            output,
+            vault,
+            &mut NoMarket,
+            clock,
+        ),
+    }
+}
+
+/// The name of no gateway.
+const NO_GATEWAY: &str = "none";
+
+/// The gateway that a market is asked for, if one is.
+fn gateway_of(named: &Option<Text>) -> Option<&str>
+    ensures { option_copied result ≡ gateway_of named.now }
+{
+    match named {
+        Some(name) if name.as_str() != NO_GATEWAY => Some(name.as_str()),
+        _ => None,
     }
 }

@@ -1,19 +1,68 @@
-use Rattle.std.proofs.Common.{map, string_bytes}
-use Rattle.kb_billd.proofs.Closed.{closes, completes, from_ok}
-use Rattle.kb_billd.proofs.Determined.{completes-only}
+use Rattle.std.proofs.Common.{◌≡◌, Err, map, string_bytes}
+use Rattle.kb_lines.specs.declared.stop.Stop.TheVariants as runs
+use Rattle.kb_words.specs.Grammar.{words_of as words_of_grammar}
+use Rattle.kb_apply.specs.LaneRuns.{outside_of}
+use Rattle.kb_opening.specs.Folders.{told_of, words_of}
+use Rattle.kb_endings.specs.declared.stop.Stop.TheVariants as stops
+use Rattle.kb_billd.specs.TopCall.{alone, around_of}
+use Rattle.kb_billd.proofs.Causes.{begins_disk, begins_inside, begins_market}
+use Rattle.kb_billd.proofs.Untouched.{rose_over}
 use Rattle.kb_billd.proofs.top.billd.Goals as goal
 
-pub returns-clause-stopped : goal.returns-clause-stopped
-returns-clause-stopped g c = λ stop is.
-    let ended = c.status_of.ensures.stopped stop is in
-    let closed = rw ended at c.close.ensures.err in
-    rw (← c.deref.ensures.value)
-    (closes (map string_bytes c.deref.result.now) _ _ _ _ _ c.begin-run.result stop
-    c.begin-run.ensures.err closed)
+pub returns-clause-ends : goal.returns-clause-ends
+returns-clause-ends g c = record {
+  outcome = c.begin-run.result;
+  written = g.O.Sink.written c.begin-run.new.output;
+  done = c.begin-run.ensures.begins;
+  closed = c.close.ensures.closes;
+}
 
-pub returns-clause-only : goal.returns-clause-only
-returns-clause-only g c = λ is.
-    let closed = from_ok c.close.result _ c.close.ensures.ok (c.status_of.ensures.done is) in
-    completes-only (map string_bytes c.deref.result.now) _ _ _ _
-    (completes (map string_bytes c.deref.result.now) _ _ _ _ _ c.begin-run.result c.begin-run.ensures.ok
-    closed.0 closed.1)
+pub returns-clause-input : goal.returns-clause-input
+returns-clause-input g c = λ is. c.begin-run.ensures.input (c.close.ensures.tells.input is)
+
+pub returns-clause-output : goal.returns-clause-output
+returns-clause-output g c = λ is. rose_over (g.O.Sink.faults c.args.output.now)
+    (g.O.Sink.faults c.begin-run.new.output) (g.O.Sink.faults c.close.new.output)
+    (c.begin-run.result ≡ Err (stops.Run runs.Output)) c.begin-run.ensures.output_rising c.close.ensures.rising
+    c.begin-run.ensures.output (c.close.ensures.cause is)
+
+pub returns-clause-inside : goal.returns-clause-inside
+returns-clause-inside g c = begins_inside (words_of g.V.Disk.Disk.honest g.V.Disk.Disk.seen g.V.Disk.Disk.images g.V.Disk.Disk.fault_count)
+    (outside_of g.V.Disk.Disk.honest g.V.Disk.Disk.moment g.V.Disk.Disk.left_since
+    g.V.Disk.Disk.fault_count g.M.Gateway.Gateway.asked g.M.Gateway.Gateway.said g.M.Gateway.Gateway.faults
+    g.C.Clock.day)
+    (alone g.V.Disk.Disk.honest g.V.Disk.Disk.moment g.V.Disk.Disk.left_since g.V.Disk.Disk.fault_count g.C.Clock.day) c.args.clock
+    (around_of (g.I.Source.left c.args.input.now) (g.O.Sink.written c.args.output.now)
+    (told_of g.V.Vault.is_out g.V.Vault.lane_bytes g.V.Vault.file_bytes g.V.Vault.faults c.args.vault.now) (g.M.Market.faults c.args.market.now))
+    (around_of (g.I.Source.left c.begin-run.new.input) (g.O.Sink.written c.begin-run.new.output)
+    (told_of g.V.Vault.is_out g.V.Vault.lane_bytes g.V.Vault.file_bytes g.V.Vault.faults c.begin-run.new.vault) (g.M.Market.faults c.begin-run.new.market))
+    c.begin-run.result (words_of_grammar (map string_bytes c.args.words.now.items))
+    c.begin-run.ensures.begins
+
+pub returns-clause-disk : goal.returns-clause-disk
+returns-clause-disk g c = λ is. begins_disk (words_of g.V.Disk.Disk.honest g.V.Disk.Disk.seen g.V.Disk.Disk.images g.V.Disk.Disk.fault_count)
+    (outside_of g.V.Disk.Disk.honest g.V.Disk.Disk.moment g.V.Disk.Disk.left_since
+    g.V.Disk.Disk.fault_count g.M.Gateway.Gateway.asked g.M.Gateway.Gateway.said g.M.Gateway.Gateway.faults
+    g.C.Clock.day)
+    (alone g.V.Disk.Disk.honest g.V.Disk.Disk.moment g.V.Disk.Disk.left_since g.V.Disk.Disk.fault_count g.C.Clock.day) c.args.clock
+    (around_of (g.I.Source.left c.args.input.now) (g.O.Sink.written c.args.output.now)
+    (told_of g.V.Vault.is_out g.V.Vault.lane_bytes g.V.Vault.file_bytes g.V.Vault.faults c.args.vault.now) (g.M.Market.faults c.args.market.now))
+    (around_of (g.I.Source.left c.begin-run.new.input) (g.O.Sink.written c.begin-run.new.output)
+    (told_of g.V.Vault.is_out g.V.Vault.lane_bytes g.V.Vault.file_bytes g.V.Vault.faults c.begin-run.new.vault) (g.M.Market.faults c.begin-run.new.market))
+    c.begin-run.result (words_of_grammar (map string_bytes c.args.words.now.items))
+    c.begin-run.ensures.begins
+    (c.close.ensures.tells.disk is)
+
+pub returns-clause-market : goal.returns-clause-market
+returns-clause-market g c = λ is. begins_market (words_of g.V.Disk.Disk.honest g.V.Disk.Disk.seen g.V.Disk.Disk.images g.V.Disk.Disk.fault_count)
+    (outside_of g.V.Disk.Disk.honest g.V.Disk.Disk.moment g.V.Disk.Disk.left_since
+    g.V.Disk.Disk.fault_count g.M.Gateway.Gateway.asked g.M.Gateway.Gateway.said g.M.Gateway.Gateway.faults
+    g.C.Clock.day)
+    (alone g.V.Disk.Disk.honest g.V.Disk.Disk.moment g.V.Disk.Disk.left_since g.V.Disk.Disk.fault_count g.C.Clock.day) c.args.clock
+    (around_of (g.I.Source.left c.args.input.now) (g.O.Sink.written c.args.output.now)
+    (told_of g.V.Vault.is_out g.V.Vault.lane_bytes g.V.Vault.file_bytes g.V.Vault.faults c.args.vault.now) (g.M.Market.faults c.args.market.now))
+    (around_of (g.I.Source.left c.begin-run.new.input) (g.O.Sink.written c.begin-run.new.output)
+    (told_of g.V.Vault.is_out g.V.Vault.lane_bytes g.V.Vault.file_bytes g.V.Vault.faults c.begin-run.new.vault) (g.M.Market.faults c.begin-run.new.market))
+    c.begin-run.result (words_of_grammar (map string_bytes c.args.words.now.items))
+    c.begin-run.ensures.begins
+    (c.close.ensures.tells.market is)

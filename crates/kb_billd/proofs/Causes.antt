@@ -1,0 +1,149 @@
+-- What a run of the program leaves, whatever its words are.
+use Rattle.std.proofs.Common.{◌≡◌, ℕ, ◌⊎◌, inl, inr, arith, List, Option, None, Some, Result, Ok, Err, refl, sym, ◌∙◌}
+use Rattle.kb_base.specs.Faults.{Rose}
+use Rattle.kb_vault.specs.Places.{SameLanes}
+use Rattle.kb_lines.specs.Reading.{Known}
+use Rattle.kb_words.specs.declared.words.Words.{Words}
+use Rattle.kb_words.specs.declared.words.Words.TheVariants as words
+use Rattle.kb_apply.specs.declared.apply.ApplyStop.{ApplyStop}
+use Rattle.kb_apply.specs.declared.apply.ApplyStop.TheVariants as applied
+use Rattle.kb_apply.specs.LaneRuns.{Outside}
+use Rattle.kb_opening.specs.declared.fault.Unopened.{Unopened}
+use Rattle.kb_opening.specs.declared.fault.Unopened.TheVariants as unopened
+use Rattle.kb_opening.specs.Folders.{VaultTold, DiskWords}
+use Rattle.kb_opening.specs.Openings.{IsCause}
+use Rattle.kb_endings.specs.declared.stop.Stop.{Stop}
+use Rattle.kb_endings.specs.declared.stop.Stop.TheVariants as stops
+use Rattle.kb_billd.specs.Runs.{AppliesFolder, outcome_of, stop_of_unopened}
+use Rattle.kb_billd.specs.TopCall.{AppliesBy, Around, Begins, Does, gateway_of}
+use Rattle.kb_billd.proofs.Founded.{founding_disk, founding_no_market}
+
+-- the program is stopped so
+abbrev stopped : Stop → Result (Unit {0}) Stop
+stopped stop = Err stop
+
+module _ {D G C : Type 0} (disks : DiskWords D) (outside : Outside D G C) (folder : List ℕ) (clock : C)
+    (old new : VaultTold) (market market_after : ℕ) (left left_after written written_after : Known)
+    (outcome : Result (Unit {0}) Stop) where
+  applied_inside : AppliesFolder disks outside folder clock old new market market_after left left_after written
+      written_after outcome → SameLanes new.is_out old.is_out
+  applied_inside (inl (fault, told, leaves)) = leaves.same.out
+  applied_inside (inr (run, told, same, runs)) = runs.inside
+
+  applied_disk : AppliesFolder disks outside folder clock old new market market_after left left_after written
+      written_after outcome → outcome ≡ Err stops.Disk → Rose old.faults new.faults
+  applied_disk (inl (fault, told, leaves)) is = by_fault fault (sym told ∙ is) leaves.cause
+    where
+      by_fault : (fault : Unopened) → stopped (stop_of_unopened fault) ≡ stopped stops.Disk
+          → IsCause folder old new market market_after fault → Rose old.faults new.faults
+      by_fault unopened.Disk same cause = cause.0
+      by_fault unopened.NoMemory same cause = absurd (cc)
+      by_fault (unopened.Journal lane at) same cause = absurd (cc)
+      by_fault unopened.Market same cause = absurd (cc)
+  applied_disk (inr (run, told, same, runs)) is = runs.counted (by_run run (sym told ∙ is))
+    where
+      by_run : (run : Result (Unit {0}) ApplyStop) → outcome_of run ≡ Err stops.Disk → run ≡ Err applied.Disk
+      by_run (Ok done) same = absurd (cc)
+      by_run (Err applied.Disk) same = refl
+      by_run (Err applied.Full) same = absurd (cc)
+      by_run (Err (applied.Run stop)) same = absurd (cc)
+
+  applied_market : AppliesFolder disks outside folder clock old new market market_after left left_after written
+      written_after outcome → outcome ≡ Err stops.Market → Rose market market_after
+  applied_market (inl (fault, told, leaves)) is = by_fault fault (sym told ∙ is) leaves.cause
+    where
+      by_fault : (fault : Unopened) → stopped (stop_of_unopened fault) ≡ stopped stops.Market
+          → IsCause folder old new market market_after fault → Rose market market_after
+      by_fault unopened.Disk same cause = absurd (cc)
+      by_fault unopened.NoMemory same cause = absurd (cc)
+      by_fault (unopened.Journal lane at) same cause = absurd (cc)
+      by_fault unopened.Market same cause = cause.1
+  applied_market (inr (run, told, same, runs)) is = by_run run (sym told ∙ is)
+    where
+      by_run : (run : Result (Unit {0}) ApplyStop) → outcome_of run ≡ Err stops.Market → Rose market market_after
+      by_run (Ok done) same = absurd (cc)
+      by_run (Err applied.Disk) same = absurd (cc)
+      by_run (Err applied.Full) same = absurd (cc)
+      by_run (Err (applied.Run stop)) same = absurd (cc)
+
+module _ {D G N C : Type 0} (disks : DiskWords D) (outside : Outside D G C) (alone : Outside D N C) (clock : C)
+    (old new : Around) (outcome : Result (Unit {0}) Stop) where
+  by-inside : (folder : List ℕ) (gateway : Option (List ℕ))
+      → AppliesBy disks outside alone folder clock old new outcome gateway
+      → SameLanes new.vault.is_out old.vault.is_out
+  by-inside folder (Some name) applies = applied_inside disks outside folder clock old.vault new.vault old.market
+      new.market old.left new.left old.written new.written outcome applies
+  by-inside folder None applies = applied_inside disks alone folder clock old.vault new.vault 0 0 old.left new.left
+      old.written new.written outcome applies.1
+
+  -- the lanes that were out are out
+  does-inside : (given : Option Words) → Does disks outside alone clock old new outcome given
+      → SameLanes new.vault.is_out old.vault.is_out
+  does-inside None does = does.1.inside
+  does-inside (Some (words.Init init)) does = does.founded.inside
+  does-inside (Some (words.Apply apply)) does = by-inside apply.dir (gateway_of apply.gateway) does
+  does-inside (Some (words.Bill bill)) does = does.1.inside
+  does-inside (Some (words.Serve serve)) does = does.1.inside
+  does-inside (Some (words.Report report)) does = does.1.inside
+  does-inside (Some (words.Make make)) does = does.1.inside
+
+  pub begins_inside : (given : Option Words) → Begins disks outside alone clock old new outcome given
+      → SameLanes new.vault.is_out old.vault.is_out
+  begins_inside given (inl does) = does-inside given does
+  begins_inside given (inr memory) = memory.1.inside
+
+  by-disk : (folder : List ℕ) (gateway : Option (List ℕ))
+      → AppliesBy disks outside alone folder clock old new outcome gateway → outcome ≡ Err stops.Disk
+      → Rose old.vault.faults new.vault.faults
+  by-disk folder (Some name) applies = applied_disk disks outside folder clock old.vault new.vault old.market
+      new.market old.left new.left old.written new.written outcome applies
+  by-disk folder None applies = applied_disk disks alone folder clock old.vault new.vault 0 0 old.left new.left
+      old.written new.written outcome applies.1
+
+  other : (stop : Stop) → outcome ≡ stopped stops.Words → outcome ≡ stopped stop → stopped stops.Words ≡ stopped stop
+  other stop words is = sym words ∙ is
+
+  -- a disk that failed is counted
+  does-disk : (given : Option Words) → Does disks outside alone clock old new outcome given → outcome ≡ Err stops.Disk
+      → Rose old.vault.faults new.vault.faults
+  does-disk None does is = let same = other stops.Disk does.0 is in absurd (cc)
+  does-disk (Some (words.Init init)) does is =
+      founding_disk does.today init old.vault new.vault outcome does.founded is
+  does-disk (Some (words.Apply apply)) does is = by-disk apply.dir (gateway_of apply.gateway) does is
+  does-disk (Some (words.Bill bill)) does is = let same = other stops.Disk does.0 is in absurd (cc)
+  does-disk (Some (words.Serve serve)) does is = let same = other stops.Disk does.0 is in absurd (cc)
+  does-disk (Some (words.Report report)) does is = let same = other stops.Disk does.0 is in absurd (cc)
+  does-disk (Some (words.Make make)) does is = let same = other stops.Disk does.0 is in absurd (cc)
+
+  pub begins_disk : (given : Option Words) → Begins disks outside alone clock old new outcome given
+      → outcome ≡ Err stops.Disk → Rose old.vault.faults new.vault.faults
+  begins_disk given (inl does) is = does-disk given does is
+  begins_disk given (inr memory) is = let same = sym memory.0 ∙ is in absurd (cc)
+
+  by-market : (folder : List ℕ) (gateway : Option (List ℕ))
+      → AppliesBy disks outside alone folder clock old new outcome gateway → outcome ≡ Err stops.Market
+      → Rose old.market new.market
+  by-market folder (Some name) applies is = applied_market disks outside folder clock old.vault new.vault old.market
+      new.market old.left new.left old.written new.written outcome applies is
+  by-market folder None applies is = absurd (nobody (applied_market disks alone folder clock old.vault new.vault 0 0
+      old.left new.left old.written new.written outcome applies.1 is))
+    where
+      nobody : Rose 0 0 → ⊥
+      nobody rose = absurd (omega (arith, rose (omega arith)))
+
+  -- a market that failed is counted
+  does-market : (given : Option Words) → Does disks outside alone clock old new outcome given
+      → outcome ≡ Err stops.Market → Rose old.market new.market
+  does-market None does is = let same = other stops.Market does.0 is in absurd (cc)
+  does-market (Some (words.Init init)) does is =
+      absurd (founding_no_market does.today init old.vault new.vault outcome does.founded is)
+  does-market (Some (words.Apply apply)) does is = by-market apply.dir (gateway_of apply.gateway) does is
+  does-market (Some (words.Bill bill)) does is = let same = other stops.Market does.0 is in absurd (cc)
+  does-market (Some (words.Serve serve)) does is = let same = other stops.Market does.0 is in absurd (cc)
+  does-market (Some (words.Report report)) does is = let same = other stops.Market does.0 is in absurd (cc)
+  does-market (Some (words.Make make)) does is = let same = other stops.Market does.0 is in absurd (cc)
+
+  pub begins_market : (given : Option Words) → Begins disks outside alone clock old new outcome given
+      → outcome ≡ Err stops.Market → Rose old.market new.market
+  begins_market given (inl does) is = does-market given does is
+  begins_market given (inr memory) is = let same = sym memory.0 ∙ is in absurd (cc)

@@ -1,0 +1,48 @@
+-- What is done by words, put together.
+use Rattle.std.proofs.Common.{◌≡◌, ◌≤◌, ◌⊎◌, ℕ, List, Option, None, Some, Result, Ok, Err, arith, inl, inr, refl, sym, subst}
+use Rattle.std.specs.Io.KnownBytes.{Keeps}
+use Rattle.kb_base.specs.Faults.{Rose}
+use Rattle.kb_lines.specs.Reading.{Known}
+use Rattle.kb_words.specs.declared.words.Init.{Init}
+use Rattle.kb_opening.specs.Folders.{VaultTold}
+use Rattle.kb_endings.specs.declared.stop.Stop.{Stop}
+use Rattle.kb_billd.specs.Foundings.{FoundsFolder}
+use Rattle.kb_billd.specs.TopCall.{Around, around_of, Founds, IsToday, IsUntouched}
+
+-- known bytes that nobody moved are kept
+keeps : (known : Option (List ℕ)) → Keeps known known
+keeps None = tt
+keeps (Some bytes) = refl
+
+-- nothing was done
+pub untouched : (around : Around) → IsUntouched around around
+untouched around = record {
+  unread = keeps around.left;
+  unwritten = keeps around.written;
+  inside = λ folder lane. refl;
+  lanes = λ folder lane. refl;
+  files = λ name. refl;
+  faults = refl;
+  market = refl;
+}
+
+-- lanes are made, and nothing is read or written for that
+pub founds : (told : Option ℕ) (init : Init) (left written : Known) (old new : VaultTold) (market : ℕ)
+    (outcome : Result (Unit {0}) Stop) (today : ℕ) → IsToday told today → FoundsFolder today init old new outcome
+    → Founds told init (around_of left written old market) (around_of left written new market) outcome
+founds told init left written old new market outcome today day founded = record {
+  today = today;
+  day = day;
+  founded = founded;
+  unread = keeps left;
+  unwritten = keeps written;
+  market = refl;
+}
+
+-- a count that rose before or after another time has risen over both
+pub rose_over : (old mid new : ℕ) (P : Type 0) → old ≤ mid → mid ≤ new → (P → Rose old mid) → P ⊎ Rose mid new
+    → Rose old new
+rose_over old mid new P first second before (inl is) below =
+    let risen = before is (omega (arith, second, below)) in omega (arith, risen, second)
+rose_over old mid new P first second before (inr rose) below =
+    let risen = rose below in omega (arith, first, risen)

@@ -1,0 +1,22 @@
+use Rattle.kb_opening.specs.Folders.{told_of}
+use Rattle.kb_billd.proofs.Founded.{founding_no_input, founding_no_output}
+use Rattle.kb_billd.proofs.Untouched.{founds}
+use Rattle.kb_billd.proofs.top.act.Goals as goal
+
+pub returns-in-Init-clause-does : goal.returns-in-Init-clause-does
+returns-in-Init-clause-does g c = rw c.in-Init.is (founds (g.C.Clock.day c.args.clock) c.in-Init.init (g.I.Source.left c.args.input.now)
+    (g.O.Sink.written c.args.output.now) (told_of g.V.Vault.is_out g.V.Vault.lane_bytes g.V.Vault.file_bytes g.V.Vault.faults c.args.vault.now)
+    (told_of g.V.Vault.is_out g.V.Vault.lane_bytes g.V.Vault.file_bytes g.V.Vault.faults c.init_on.new.vault)
+    (g.M.Market.faults c.args.market.now) c.init_on.result c.init_on.ensures.0 c.init_on.ensures.1 c.init_on.ensures.2)
+
+pub returns-in-Init-clause-input : goal.returns-in-Init-clause-input
+returns-in-Init-clause-input g c = λ is. absurd (founding_no_input c.init_on.ensures.0 c.in-Init.init
+    (told_of g.V.Vault.is_out g.V.Vault.lane_bytes g.V.Vault.file_bytes g.V.Vault.faults c.args.vault.now)
+    (told_of g.V.Vault.is_out g.V.Vault.lane_bytes g.V.Vault.file_bytes g.V.Vault.faults c.init_on.new.vault)
+    c.init_on.result c.init_on.ensures.2 is)
+
+pub returns-in-Init-clause-output : goal.returns-in-Init-clause-output
+returns-in-Init-clause-output g c = λ is. absurd (founding_no_output c.init_on.ensures.0 c.in-Init.init
+    (told_of g.V.Vault.is_out g.V.Vault.lane_bytes g.V.Vault.file_bytes g.V.Vault.faults c.args.vault.now)
+    (told_of g.V.Vault.is_out g.V.Vault.lane_bytes g.V.Vault.file_bytes g.V.Vault.faults c.init_on.new.vault)
+    c.init_on.result c.init_on.ensures.2 is)

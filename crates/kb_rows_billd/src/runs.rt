@@ -1,0 +1,73 @@
+//! Runs of the program.
+ghost use Rattle.kb_rows_billd.specs.Insides.{AllInside};
+
+use kb_billd::billd;
+use kb_clock::FixedClock;
+use kb_gateway::ListMarket;
+use kb_ports::{BytesSink, BytesSource};
+use kb_samples::day;
+use kb_vault::MemoryVault;
+use std::alloc::{AllocError, Global};
+use std::test::Fail;
+
+/// Runs the program with words over an input, on 2024-03-01: its status, and what it wrote.
+pub(crate) fn run(
+    alloc: Global,
+    vault: &mut MemoryVault,
+    market: &mut ListMarket,
+    words: &str,
+    input: &str,
+) -> Result<(u8, String), Fail>
+    requires inside { AllInside vault.old }
+    ensures inside { AllInside vault.new }
+{
+    let input = BytesSource::new(input.as_bytes().to_vec(alloc)?, Vec::new(alloc));
+    let output = BytesSink::new(Vec::new(alloc), Vec::new(alloc));
+    run_between(alloc, vault, market, words, input, output)
+}
+
+/// Runs the program between a source and a sink.
+pub(crate) fn run_between(
+    alloc: Global,
+    vault: &mut MemoryVault,
+    market: &mut ListMarket,
+    words: &str,
+    input: BytesSource,
+    mut output: BytesSink,
+) -> Result<(u8, String), Fail>
+    requires inside { AllInside vault.old }
+    ensures inside { AllInside vault.new }
+{
+    let words = words_of(alloc, words)?;
+    let clock = FixedClock::new(day("2024-03-01")?);
+    let status = call(alloc, &words, input, &mut output, vault, market, clock);
+    let text = str::from_utf8(output.bytes()).unwrap_or("?");
+    Ok((status, text.to_string(alloc)?))
+}
+
+/// Calls the program.
+#[tactic(auto, using(crate::proofs::Insides::still_inside))]
+fn call(
+    alloc: Global,
+    words: &Vec<String>,
+    mut input: BytesSource,
+    output: &mut BytesSink,
+    vault: &mut MemoryVault,
+    market: &mut ListMarket,
+    clock: FixedClock,
+) -> u8
+    requires inside { AllInside vault.old }
+    ensures inside { AllInside vault.new }
+{
+    billd(alloc, words, &mut input, output, vault, market, clock)
+}
+
+/// Words that stand with one blank between, where `''` is a word without a byte.
+fn words_of(alloc: Global, line: &str) -> Result<Vec<String>, AllocError> {
+    let mut words = Vec::new(alloc);
+    for word in line.split(' ') {
+        let text = if word == "''" { "" } else { word };
+        words.push(String::from_str(alloc, text)?)?;
+    }
+    Ok(words)
+}
