@@ -1,17 +1,18 @@
 #!/bin/sh
-# A first run: answers demo/first.txt at once by the program as it is written, then proves and builds the
-# program, and answers again by what was proved.
+# A shop's month: makes a folder of lanes and answers demo/month.jsonl at once by the program as it is written, then
+# proves and builds the program, and answers again by what was proved, twice, to show that keys act once.
 #
 #   sh demo.sh            both
-#   sh demo.sh --quick    the first answers alone, in about half a minute
+#   sh demo.sh --quick    the first answers alone, in a minute or two
 set -eu
 cd "$(dirname "$0")"
 export LC_ALL=C
 
-lines=demo/first.txt
 billd=crates/billd/out/billd
+lines=$PWD/demo/month.jsonl
 work=$(mktemp -d)
-trap 'rm -rf "$work"' EXIT
+gateway=
+trap '[ -z "$gateway" ] || kill "$gateway"; rm -rf "$work"' EXIT
 
 case "${1-}" in
 '' | --quick) ;;
@@ -21,11 +22,31 @@ case "${1-}" in
     ;;
 esac
 
-# Each line of demo/first.txt beside its answer.
+# A gateway on this machine, which accepts each order.
+python3 demo/gateway.py "$work/port" &
+gateway=$!
+until [ -s "$work/port" ]; do sleep 0.1; done
+peer=127.0.0.1:$(cat "$work/port")
+
+# The words that make a folder's lanes, and those that answer lines.
+init_words() {
+    echo "init --dir $1 --lanes 2 --catalog $PWD/demo/catalog.toml --overdue $PWD/demo/overdue.toml"
+}
+apply_words() {
+    echo "apply --dir $1 --gateway $peer"
+}
+
+# Each line with what it means, and its answer.
 print_answers() {
-    paste "$lines" "$work/answers" | awk -F '\t' '
-        BEGIN { printf "    %-32s %s\n", "line", "answer" }
-        { printf "    %-32s %s\n", $1, $2 }'
+    paste -d '\n' demo/month.txt "$lines" "$1" | awk '
+        NR % 3 == 1 { printf "    %s\n", $0 }
+        NR % 3 == 2 { printf "      > %s\n", $0 }
+        NR % 3 == 0 { printf "      < %s\n", $0 }'
+}
+
+# The bytes of each lane's journal.
+print_journals() {
+    (cd "$1" && wc -c lane-*.kbj | sed 's/^/    /')
 }
 
 # The minutes since the script began, and the disk that the toolchain's folders out/ take.
@@ -36,22 +57,32 @@ print_cost() {
     echo "    after $((seconds / 60)) min $((seconds % 60)) s; out/ takes $disk MB"
 }
 
-echo "1. The program as it is written. Nothing is proved yet: the toolchain only compiles it (half a minute)."
-if ! (cd crates/billd && rt try -- apply) <"$lines" >"$work/answers" 2>"$work/tried"; then
-    tail -n 20 "$work/tried" >&2
-    echo "demo.sh: the program couldn't be tried" >&2
-    exit 1
-fi
-print_answers
+# Runs the program as it is written.
+try() {
+    # shellcheck disable=SC2086
+    if ! (cd crates/billd && rt try -- $1) 2>"$work/tried"; then
+        tail -n 20 "$work/tried" >&2
+        echo "demo.sh: the program couldn't be tried" >&2
+        exit 1
+    fi
+}
+
+echo "1. The program as it is written. Nothing is proved yet: the toolchain only compiles it."
+mkdir "$work/first"
+try "$(init_words "$work/first")"
+try "$(apply_words "$work/first")" <"$lines" >"$work/answers"
+print_answers "$work/answers"
+print_journals "$work/first"
 print_cost
 [ "${1-}" != --quick ] || exit 0
 
 echo
-echo "2. The proof of the program and of each library below it, then the build. What is proved is kept in"
-echo "   crates/*/out. The first time this takes 16 processor minutes (7 on four processors) and 2.4 GB."
+echo "2. The proof of the program and of each library below it, then the build. What is proved is kept in crates/*/out."
+mkdir "$work/second"
 {
     status=0
-    (cd crates/billd && rt run -- apply) <"$lines" 2>&1 >"$work/answers" || status=$?
+    # shellcheck disable=SC2046
+    (cd crates/billd && rt run -- $(init_words "$work/second")) 2>&1 || status=$?
     echo "$status" >"$work/status"
 } | tee "$work/built" | grep --line-buffered -E '^(rt: |so far: [0-9])' | sed -u 's/^/    /' || true
 if [ "$(cat "$work/status")" -ne 0 ]; then
@@ -61,10 +92,16 @@ if [ "$(cat "$work/status")" -ne 0 ]; then
 fi
 
 echo
-echo "3. The proved program, $billd apply:"
-status=0
-"$billd" apply <"$lines" >"$work/answers" || status=$?
-print_answers
+echo "3. The proved program, $billd:"
+# shellcheck disable=SC2046
+"$billd" $(apply_words "$work/second") <"$lines" >"$work/answers"
+print_answers "$work/answers"
+print_journals "$work/second"
 print_cost
-[ "$status" -eq 0 ] || echo "demo.sh: billd ended with status $status" >&2
-exit "$status"
+
+echo
+echo "4. The same lines again. Each key has acted, so each command gets the answer that it got, and no byte is added:"
+# shellcheck disable=SC2046
+"$billd" $(apply_words "$work/second") <"$lines" >"$work/again"
+grep -c '"command":' "$work/again" | sed 's/$/ answers to commands/; s/^/    /'
+print_journals "$work/second"
