@@ -7,7 +7,6 @@ pub mod AutoKeyNames
 pub mod StartedCharges
 pub mod SoundNexts
 pub mod BegunNexts
-pub mod AllowedDues
 pub mod PreparedSteps
 pub mod OpenedBooks
 pub mod StateRows

@@ -1,4 +1,3 @@
-pub mod FirstDue
 pub mod Facts
 pub mod Governing
 pub mod Life

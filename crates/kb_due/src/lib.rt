@@ -13,7 +13,6 @@ mod due;
 mod entitlement;
 mod facts;
 mod fee;
-mod first;
 mod governing;
 mod life;
 
@@ -25,6 +24,5 @@ pub use due::due_on;
 pub use entitlement::{Entitlement, state_on};
 pub use facts::Facts;
 pub use fee::{fee_by, fee_on};
-pub use first::{FirstCell, first_due};
 pub use governing::{Choice, Governing, choice_of, governing_on};
 pub use life::{choice_on, is_available, is_kept_on, is_running, lead_of, live};
