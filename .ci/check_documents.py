@@ -9,8 +9,8 @@ In README.md and docs/:
   a type, a constant or a method of an .rt file, a definition, a lemma or a field of an .antt file; and
   behind the word 'clause' or 'clauses', each name is that of an `ensures`, a `requires` or a field
   there;
-- each name behind 'Refused:' (or in a table's row 'Refused') is a must-fail edit of a crate of the same
-  section, or of any crate where the section names none;
+- each name behind 'Refused:' (or in a table's row 'Refused') is an edit, in must-fail/ or in edits/, of a
+  crate of the same section, or of any crate where the section names none;
 - the links between documents lead somewhere.
 
 Each crate of crates.txt has a row in docs/MAP.md. It fails with a line for each stale name. It also
@@ -25,7 +25,7 @@ TOP = pathlib.Path(__file__).resolve().parent.parent
 CRATES = TOP / "crates"
 COLUMNS, LINES = 110, 500
 SOURCE = re.compile(r"`?((?:crates/)?[a-z][a-z_]*/(?:src|specs|proofs)(?:/[\w.]+)*\.(?:rt|antt))`?")
-FOLDERS = r"(?:crates|docs|bench|demo|\.ci|kb_[a-z_]+|billd)"
+FOLDERS = r"(?:crates|docs|bench|demo|edits|\.ci|kb_[a-z_]+|billd)"
 PATH = re.compile(rf"(?<![\w/.])({FOLDERS}/[\w./-]*\w|demo\.sh|crates\.txt|HANDLES)")
 NAME = re.compile(r"`([A-Za-z_][\w:'-]*)`")
 LINK = re.compile(r"\]\(([^)#\s]+)(#[^)\s]*)?\)")
@@ -125,6 +125,11 @@ def stale_sources(part):
             names, _, clauses = after.partition("clause")
 
 
+def edit_folders(crate):
+    """Where the wrong bodies of a crate stand: those that the gate tries, and the others."""
+    return CRATES / crate / "must-fail", TOP / "edits" / crate
+
+
 def stale_edits(heading, part, below):
     """The names behind 'Refused' that are no edits of the section's crates."""
     said = re.search(r"(?:\*?Refused:\*?|^\|\s*Refused\s*\|)(.*)", part)
@@ -134,7 +139,7 @@ def stale_edits(heading, part, below):
             for other in below for it in SOURCE.findall(other)}
     near = {it for it in near if (CRATES / it).is_dir()} or set(crates())
     for name in NAME.findall(re.split(r"\. \*[A-Z]", said.group(1))[0]):
-        if not any((CRATES / it / "must-fail" / f"{name}.edit").is_file() for it in near):
+        if not any((at / f"{name}.edit").is_file() for it in near for at in edit_folders(it)):
             yield f"'{heading}': no edit {name} in {', '.join(sorted(near))}"
 
 

@@ -4,12 +4,13 @@
 //! and clock, and promises what that call's clauses say.
 #![tactic(auto)]
 
-use kb_billd::{StdSink, StdSource, billd};
+use kb_billd::billd;
 use kb_clock::SystemClock;
 use kb_endings::{Stop, close};
 use kb_folders::FolderVault;
 use kb_line_gateway::LineMarket;
 use kb_ports::NoMemory;
+use kb_streams::{StdSink, StdSource};
 use std::process::ExitCode;
 use std::{env, io};
 

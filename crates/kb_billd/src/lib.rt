@@ -3,12 +3,10 @@
 //! What the program promises stands in that call's clauses: the lines of the input are answered by the lanes of a
 //! folder, each of which begins with the history that its bytes stand for and ends with bytes that stand for its last
 //! one; each day of each account then has exactly the charge that is due, or none; and no payment is asked for twice.
-//! `command` has what each command does, and `adapter` the streams of the process.
+//! `command` has what each command does.
 #![tactic(auto)]
 
-mod adapter;
 mod command;
 mod top;
 
-pub use adapter::{StdSink, StdSource};
 pub use top::billd;

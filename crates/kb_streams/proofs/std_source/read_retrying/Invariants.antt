@@ -1,6 +1,6 @@
 use Rattle.std.proofs.Common.{◌≡◌, length}
 use Rattle.std.specs.Io.KnownBytes.{Keeps}
-use Rattle.kb_billd.proofs.adapter.std_source.read_retrying.Given as goal
+use Rattle.kb_streams.proofs.std_source.read_retrying.Given as goal
 
 -- an interrupted read took nothing
 abbrev pub invariant-loop : goal.invariant-loop

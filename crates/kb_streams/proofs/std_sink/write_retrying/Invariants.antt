@@ -1,5 +1,5 @@
 use Rattle.std.specs.Io.KnownBytes.{Keeps}
-use Rattle.kb_billd.proofs.adapter.std_sink.write_retrying.Given as goal
+use Rattle.kb_streams.proofs.std_sink.write_retrying.Given as goal
 
 -- an interrupted write put nothing
 abbrev pub invariant-loop : goal.invariant-loop
