@@ -1,6 +1,6 @@
 #!/bin/sh
-# A shop's month: makes a folder of lanes and answers demo/month.jsonl at once by the program as it is written, then
-# proves and builds the program, and answers again by what was proved, twice, to show that keys act once.
+# A shop's month: makes a folder of lanes and answers demo/month.jsonl at once by the program as it is written,
+# then proves and builds the program, and answers again by what was proved, twice, to show that keys act once.
 #
 #   sh demo.sh            both
 #   sh demo.sh --quick    the first answers alone, in a minute or two
@@ -77,7 +77,7 @@ print_cost
 [ "${1-}" != --quick ] || exit 0
 
 echo
-echo "2. The proof of the program and of each library below it, then the build. What is proved is kept in crates/*/out."
+echo "2. The proof of the program and of each library below it, then the build. What is proved is kept in out/."
 mkdir "$work/second"
 {
     status=0
@@ -100,7 +100,7 @@ print_journals "$work/second"
 print_cost
 
 echo
-echo "4. The same lines again. Each key has acted, so each command gets the answer that it got, and no byte is added:"
+echo "4. The same lines again. Each key has acted: each command gets the answer that it got, and no byte is added."
 # shellcheck disable=SC2046
 "$billd" $(apply_words "$work/second") <"$lines" >"$work/again"
 grep -c '"command":' "$work/again" | sed 's/$/ answers to commands/; s/^/    /'

@@ -2,9 +2,9 @@
 
     python3 bench/apply.py
 
-Runs the built program on a folder of the disk that this repository is on, and on one in memory (/dev/shm), and prints:
-bills a second on disk, beside a loop of two writes and two syncs a command in the same folder; lines a second in memory;
-seconds to open a lane of 100,000 commands; and peak memory.
+Runs the built program on a folder of the disk that this repository is on, and on one in memory (/dev/shm),
+and prints: bills a second on disk, beside a loop of two writes and two syncs a command in the same folder;
+lines a second in memory; seconds to open a lane of 100,000 commands; and peak memory.
 """
 import json
 import os
@@ -23,7 +23,8 @@ LOADED = 100_000
 def run(folder: str, lines: list[bytes]) -> tuple[float, int]:
     """Seconds for these lines, and the peak memory in kilobytes."""
     began = time.monotonic()
-    program = subprocess.Popen([BILLD, "apply", "--dir", folder], stdin=subprocess.PIPE, stdout=subprocess.DEVNULL)
+    words = [BILLD, "apply", "--dir", folder]
+    program = subprocess.Popen(words, stdin=subprocess.PIPE, stdout=subprocess.DEVNULL)
     program.stdin.write(b"".join(lines))
     program.stdin.close()
     _pid, status, usage = os.wait4(program.pid, 0)
@@ -45,7 +46,8 @@ def made(folder: str) -> None:
 
 
 def bills(count: int, first: int) -> list[bytes]:
-    return [line(do="bill", account=f"a{n % ACCOUNTS}", key=f"b{first + n}", today="2024-03-01") for n in range(count)]
+    return [line(do="bill", account=f"a{n % ACCOUNTS}", key=f"b{first + n}", today="2024-03-01")
+            for n in range(count)]
 
 
 def bare(folder: str) -> float:
@@ -69,7 +71,8 @@ def main() -> None:
         made(folder)
         seconds, _memory = run(folder, bills(BILLS, 0))
         alone = bare(folder)
-        print(f"on disk: {BILLS / seconds:.0f} bills a second, {BILLS / alone:.0f} bare appends; ratio {alone / seconds:.2f}")
+        print(f"on disk: {BILLS / seconds:.0f} bills a second, {BILLS / alone:.0f} bare appends; "
+              f"ratio {alone / seconds:.2f}")
     with tempfile.TemporaryDirectory(dir="/dev/shm") as folder:
         made(folder)
         seconds, memory = run(folder, bills(LOADED, 0))

@@ -2,10 +2,10 @@
 
     python3 bench/kill.py [COUNT]
 
-Runs `crates/billd/out/billd apply` COUNT times (200) over one folder. Each run is sent commands, one after another, and
-is killed by SIGKILL after a random time. The run after it is first sent every command of the run before again, under
-its key: one that was answered must get the answer that it got, and the one that wasn't is answered now. Prints how many
-runs and answers there were, and fails at the first answer that is lost.
+Runs `crates/billd/out/billd apply` COUNT times (200) over one folder. Each run is sent commands, one after
+another, and is killed by SIGKILL after a random time. The run after it is first sent every command of the run
+before again, under its key: one that was answered must get the answer that it got, and the one that wasn't is
+answered now. Prints how many runs and answers there were, and fails at the first answer that is lost.
 """
 import json
 import pathlib
@@ -42,7 +42,7 @@ def ask(program: subprocess.Popen, command: bytes) -> bytes | None:
 
 
 def one_run(folder: str, before: dict[int, bytes | None], first: int) -> dict[int, bytes | None]:
-    """Sends what came before again, then new commands until the program is killed: their keys with their answers."""
+    """Sends what came before again, then new commands until the program is killed: their keys and answers."""
     program = start(folder)
     for key, answer in before.items():
         again = ask(program, line(key))
@@ -67,7 +67,8 @@ def main(count: int) -> None:
         init = ["init", "--dir", folder, "--lanes", "1"]
         texts = ["--catalog", ROOT / "demo/catalog.toml", "--overdue", ROOT / "demo/overdue.toml"]
         subprocess.run([BILLD, *init, *texts], check=True)
-        opening = {"do": "open", "account": "a1", "key": "k1", "currency": "USD", "bcd": 1, "today": "2024-03-01"}
+        opening = {"do": "open", "account": "a1", "key": "k1", "currency": "USD", "bcd": 1,
+                   "today": "2024-03-01"}
         subprocess.run([BILLD, "apply", "--dir", folder], input=json.dumps(opening).encode(), check=True,
                        stdout=subprocess.DEVNULL)
         before: dict[int, bytes | None] = {}

@@ -1,5 +1,5 @@
 #!/bin/sh
-# Tries the wrong programs in edits/, which the gate doesn't try: each must be refused by the contracts of its crate.
+# Tries the wrong programs in edits/, which the gate doesn't try. Each must be refused.
 #
 #   sh edits/try.sh             all of them, which takes hours
 #   sh edits/try.sh CRATE ..    those of some crates
@@ -16,7 +16,9 @@ fi
 
 work=$(mktemp -d)
 trap 'rm -rf "$work"' EXIT
-git ls-files -z crates crates.txt HANDLES | tar --null --files-from=- --create | tar --extract --directory="$work"
+git ls-files -z crates crates.txt HANDLES |
+    tar --null --files-from=- --create |
+    tar --extract --directory="$work"
 for crate in "$@"; do
     rm -rf "$work/crates/$crate/must-fail"
     cp -R "edits/$crate" "$work/crates/$crate/must-fail"
