@@ -4,7 +4,7 @@ use crate::hold::hold_rows;
 use crate::rows::{Row, Script};
 use std::test::Fail;
 
-static REQUESTS: [Row; 2] = [
+static REQUESTS: [Row; 3] = [
     Row {
         name: "numbers_and_days_out_of_range",
         overdue: "o",
@@ -49,6 +49,18 @@ not JSON
 {"status":"ok","states":0}
 {"status":"text","fault":1}
 {"status":"bad","fault":3}"#,
+        account: r#"{"status":"refused","number":3,"name":"NoAccount"}"#,
+    },
+    Row {
+        name: "carriage_returns",
+        overdue: "none",
+        script: Script {
+            told: &[],
+            seen: &[],
+            failing: &[],
+        },
+        lines: "\r\n{}\r\n\r",
+        answers: r#"{"status":"bad","fault":3}"#,
         account: r#"{"status":"refused","number":3,"name":"NoAccount"}"#,
     },
 ];
