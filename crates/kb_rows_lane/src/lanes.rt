@@ -43,6 +43,15 @@ pub(crate) fn on_disk(alloc: Global, failing: u64) -> Result<TestLane, Fail> {
     made(alloc, disk, gateway)
 }
 
+/// An empty lane whose gateway accepts an order, on a disk whose call of this number fails.
+pub(crate) fn paying_on_disk(alloc: Global, failing: u64) -> Result<TestLane, Fail> {
+    let failing = [failing].to_vec(alloc)?;
+    let disk = MemoryDisk::new(alloc, Vec::new(alloc), failing)?;
+    let told = [Told::Processed].to_vec(alloc)?;
+    let gateway = ListGateway::new(alloc, told, Vec::new(alloc), Vec::new(alloc));
+    made(alloc, disk, gateway)
+}
+
 /// Handles entries of the outbox until a step isn't done: how many were, and that step.
 pub(crate) fn drained(lane: &mut TestLane, alloc: Global, today: Day) -> (u32, Step) {
     for count in 0..100 {
