@@ -1,0 +1,4 @@
+pub mod DecimalNames
+pub mod MonthBounds
+pub mod Counts
+pub mod Sendings
