@@ -1,16 +1,16 @@
 -- How many commands a seed stands for at most.
 use Rattle.std.proofs.Common.{◌≡◌, ℕ, zero, suc, ◌+◌, ◌*◌, ◌≤◌, ◌%◌, List, [], ◌∷◌, ◌++◌, length, refl, arith}
-use Rattle.std.proofs.Common.{length-append, ap, Option, Some, None, map, slice_get}
+use Rattle.std.proofs.Common.{length-append, ap, Option, Some, None, slice_get}
 use Rattle.std.specs.Option.{option_to_list}
 use Rattle.kb_codec.specs.declared.command.Command.{Command}
 use Rattle.kb_generator.specs.Draws.{next_state, drawn, after_draws}
 use Rattle.kb_generator.specs.MonthDays.{first_of_month}
 use Rattle.kb_generator.specs.SeedCommands.{choices, bill}
-use Rattle.kb_generator.specs.Seeds.{Unsent, on_start, on_first, in_months, of_account, of_accounts, with_keys}
+use Rattle.kb_generator.specs.Seeds.{Unsent, on, on_first, in_months, of_account, of_accounts, with_keys}
 
 -- a month brings a bill, and at most one command before it
 few-chosen : (day : ℕ) (chosen : Option (List ℕ → Command)) (last : List ℕ → Command)
-    → length {A = Unsent} (map (λ (command : List ℕ → Command). (day, command)) (option_to_list chosen ++ last ∷ [])) ≤ 2
+    → length (on day (option_to_list chosen ++ last ∷ [])) ≤ 2
 few-chosen day None last = omega arith
 few-chosen day (Some command) last = omega arith
 
@@ -50,7 +50,7 @@ length-with_keys number [] = refl
 length-with_keys number ((day, command) ∷ later) = omega (arith, length-with_keys (number + 1) later)
 
 -- so a seed stands for 242 commands for each account at most
-pub few_commands : (seed accounts months : ℕ) (unsent : List Unsent) → unsent ≡ of_accounts seed 1 accounts months
-    → months ≤ 120 → length (with_keys 1 unsent) ≤ 242 * accounts
+pub few_commands : (seed accounts months : ℕ) (unsent : List Unsent)
+    → unsent ≡ of_accounts seed 1 accounts months → months ≤ 120 → length (with_keys 1 unsent) ≤ 242 * accounts
 few_commands seed accounts months unsent is few =
     omega (arith, length-with_keys 1 unsent, ap length is, few_of_accounts seed 1 accounts months few)

@@ -1,6 +1,6 @@
 -- A letter with a number behind it is a name.
-use Rattle.std.proofs.Common.{◌≡◌, ℕ, ◌+◌, ◌<◌, ◌≤◌, ◌^◌, ◌%◌, ◌/◌, Bool, true, ◌&&◌, List, [], ◌∷◌, ◌++◌, length}
-use Rattle.std.proofs.Common.{decimal, nat_lt, nat_le, IsTrue, refl, sym, ap₂, subst, ◌∙◌, arith}
+use Rattle.std.proofs.Common.{◌≡◌, ℕ, ◌+◌, ◌<◌, ◌≤◌, ◌^◌, ◌%◌, Bool, true, ◌&&◌, List, [], ◌∷◌}
+use Rattle.std.proofs.Common.{length, decimal, nat_lt, nat_le, IsTrue, refl, sym, ap₂, subst, ◌∙◌, arith}
 use Rattle.std.proofs.lemmas.Bool.Decides.{nat_tests}
 use Rattle.std.proofs.lemmas.Fmt.{decimal_by_steps, length-decimal-le}
 use Rattle.std.proofs.lemmas.List.Folds.{list_all-append}
@@ -30,5 +30,6 @@ numbered_named bytes letter number is byte low =
     few : length (decimal number) ≤ 10
     few = length-decimal-le 10 number (omega arith) (omega arith) (omega arith)
 
-    short : (nat_lt 0 (length (letter ∷ decimal number)) && nat_le (length (letter ∷ decimal number)) 64) ≡ true
+    short : (nat_lt 0 (length (letter ∷ decimal number))
+        && nat_le (length (letter ∷ decimal number)) 64) ≡ true
     short = grind (arith, nat_tests, few)

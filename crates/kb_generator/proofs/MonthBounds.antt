@@ -2,7 +2,6 @@
 use Rattle.std.proofs.Common.{◌≡◌, ℕ, ◌+◌, ◌≤◌, refl, arith}
 use Rattle.kb_days.specs.Calendar.{month_start, month_length, mark}
 use Rattle.kb_days.proofs.Months.{month_start-rises, mark-first}
-use Rattle.kb_generator.specs.MonthDays.{first_of_month}
 
 january_2024 : month_start 648 ≡ 19723
 unfolding month_start month_length

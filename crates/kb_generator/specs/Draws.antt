@@ -1,4 +1,4 @@
--- The draws of a seed. A draw takes a state to the next one, and gives a part of this. The first state is the
+-- The draws of a seed. A draw takes a state to the next one, and gives a part of that. The first state is the
 -- seed.
 use Rattle.std.specs.Prelude.{ℕ, zero, suc, ◌+◌, ◌*◌, ◌/◌, ◌%◌, ◌^◌, ◌≡◌, refl}
 
@@ -10,7 +10,7 @@ behind_the_seed_1 : next_state 1 ≡ 1103527590
 unfolding next_state
 behind_the_seed_1 = refl
 
--- what a draw gives: its state's number of 65536s, without what is above 32767
+-- what a draw gives: the state that it leaves, divided by 65536 and rounded down, modulo 32768
 unfoldable pub drawn : ℕ → ℕ
 drawn state = next_state state / 65536 % 32768
 

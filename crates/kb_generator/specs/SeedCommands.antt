@@ -1,7 +1,7 @@
 -- The kinds of commands that a seed stands for. A command gets its key when it is sent: until then it is a
 -- function of the key.
-use Rattle.std.specs.Prelude.{ℕ, ◌+◌, ◌-◌, ◌%◌, ◌≡◌, Bool, true, false, List, [], ◌∷◌, length, Some, codes, refl}
-use Rattle.std.specs.Prelude.{slice_get}
+use Rattle.std.specs.Prelude.{ℕ, ◌+◌, ◌-◌, ◌%◌, ◌≡◌, Bool, true, false, List, [], ◌∷◌, length, Some, codes}
+use Rattle.std.specs.Prelude.{slice_get, refl}
 use Rattle.std.specs.Fmt.{digits}
 use Rattle.kb_days.specs.Dates.{january, february}
 use Rattle.kb_days.specs.declared.period.Period.TheVariants.{Monthly}
@@ -64,6 +64,11 @@ abbrev pub resumption : ℕ → ℕ → List ℕ → Command
 resumption account day key =
     kinds.Resume (record { account = account_name account; key = key; bundle = codes "b1"; day = Some day })
 
+paused : pause 2 (january 29) (codes "k9") ≡ kinds.Pause
+    (record { account = codes "m2"; key = codes "k9"; bundle = codes "b1"; day = Some (january 29) })
+unfolding digits
+paused = refl
+
 resumed : resumption 1 (january 29) (codes "k3") ≡ kinds.Resume
     (record { account = codes "m1"; key = codes "k3"; bundle = codes "b1"; day = Some (january 29) })
 unfolding digits
@@ -81,7 +86,19 @@ change account product day key = kinds.Change (record {
   day = Some day;
 })
 
--- charges an amount, and credits one
+to_a_better_one : change 1 (codes "Pro") (january 30) (codes "k3") ≡ kinds.Change (record {
+  account = codes "m1";
+  key = codes "k3";
+  subscription = codes "s1";
+  product = codes "Pro";
+  period = Monthly;
+  list = codes "DEFAULT";
+  day = Some (january 30);
+})
+unfolding digits
+to_a_better_one = refl
+
+-- charges an amount in cents, and credits one
 abbrev pub charge : ℕ → ℕ → List ℕ → Command
 charge account amount key =
     kinds.Charge (record { account = account_name account; key = key; amount = amount })
@@ -89,6 +106,16 @@ charge account amount key =
 abbrev pub credit : ℕ → ℕ → List ℕ → Command
 credit account amount key =
     kinds.Credit (record { account = account_name account; key = key; amount = amount })
+
+charged : charge 12 500 (codes "k3") ≡ kinds.Charge
+    (record { account = codes "m12"; key = codes "k3"; amount = 500 })
+unfolding digits
+charged = refl
+
+credited : credit 12 300 (codes "k3") ≡ kinds.Credit
+    (record { account = codes "m12"; key = codes "k3"; amount = 300 })
+unfolding digits
+credited = refl
 
 -- bills the account up to a day
 abbrev pub bill : ℕ → ℕ → List ℕ → Command
@@ -99,7 +126,7 @@ billed : bill 1 (february 1) (codes "k4")
 unfolding digits
 billed = refl
 
--- what a month's draw chooses from, numbered from 0, by the first day of the month
+-- what the draw of a month chooses from, numbered from 0; the day is the first of the month
 abbrev pub choices : ℕ → ℕ → List (List ℕ → Command)
 choices account day =
     pause account (day - 3)
@@ -130,3 +157,6 @@ is_seeded _ = false
 
 a_bill : is_seeded (bill 1 (february 1) (codes "k4")) ≡ true
 a_bill = refl
+
+an_automatic_payment : is_seeded (kinds.Auto (record { account = codes "m1"; invoice = 1 })) ≡ false
+an_automatic_payment = refl

@@ -6,9 +6,7 @@ ghost use Rattle.kb_codec.specs.Commands.{IsAmount};
 
 use crate::days::days_before;
 use crate::names::{account_name, named};
-use kb_codec::{
-    Amount, Bill, Change, Charge, Command, Create, Credit, OpenAccount, Pause, Resume,
-};
+use kb_codec::{Amount, Bill, Change, Charge, Command, Create, Credit, OpenAccount, Pause, Resume};
 use kb_days::{Bcd, Day, Name, Period};
 use kb_money::Currency;
 

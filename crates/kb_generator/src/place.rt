@@ -11,8 +11,8 @@ use crate::draws::Draws;
 use kb_codec::Command;
 use kb_days::{Day, Name};
 
-/// How far the commands have come. An account is sent what waits, and then what its months bring; after them the
-/// next account is opened.
+/// How far the commands have come. An account is sent what waits, and then what its months bring; after them
+/// the next account is opened.
 #[derive(Drop)]
 pub(crate) struct Place {
     pub(crate) draws: Draws,

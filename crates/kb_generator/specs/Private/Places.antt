@@ -28,7 +28,7 @@ pub record IsPlace (place : Place) : Type 0 where
   pub months : place.months ≤ 120
   pub month : place.month + place.months_left ≤ 121
 
--- A command is sent under a key: it was the first of those that were still to be sent, and the others are left.
+-- A command is sent under a key: it was the first of what was still to be sent, and the others are left.
 abbrev pub Sends : List Unsent → List ℕ → ℕ × Command → List Unsent → Type 0
 Sends old key sent new =
     (command : List ℕ → Command) × (old ≡ (sent.0, command) ∷ new) × (sent.1 ≡ command key)

@@ -1,4 +1,3 @@
-use Rattle.std.proofs.Common.{refl}
 use Rattle.kb_generator.specs.SeedCommands.{creation, bill}
 use Rattle.kb_generator.proofs.place.waiting_command.Goals as goal
 

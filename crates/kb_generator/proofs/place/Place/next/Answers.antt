@@ -1,4 +1,4 @@
-use Rattle.std.proofs.Common.{◌≡◌, ◌≤◌, refl, arith}
+use Rattle.std.proofs.Common.{◌≤◌, refl, arith}
 use Rattle.kb_generator.proofs.Sendings.{unsent-over}
 use Rattle.kb_generator.proofs.place.Place.next.Goals as goal
 

@@ -1,0 +1,5 @@
+//! Worked rows of the commands of a seed.
+#![tactic(auto)]
+
+#[cfg(test)]
+mod seeds;
