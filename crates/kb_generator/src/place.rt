@@ -1,5 +1,5 @@
 //! How far the commands of a seed have come.
-ghost use Rattle.std.specs.Prelude.{◌≡◌, ◌<◌, ◌^◌, ◌≤◌, true, [], None, IsNone, IfSome};
+ghost use Rattle.std.specs.Prelude.{◌≡◌, ◌<◌, ◌^◌, ◌≤◌, true, [], IsNone, IfSome};
 ghost use Rattle.kb_generator.specs.SeedCommands.{is_seeded};
 ghost use Rattle.kb_generator.specs.Seeds.{of_accounts};
 ghost use Rattle.kb_generator.specs.Private.Places.{unsent, waiting_of, IsPlace, Sends};

@@ -2,6 +2,7 @@
 ghost use Rattle.std.specs.Prelude.{◌≡◌, ◌≤◌, ◌<◌, ◌^◌, IfOk};
 ghost use Rattle.kb_generator.specs.Seeds.{commands_of};
 
+use crate::compare::same;
 use kb_base::NoMemory;
 use kb_codec::{Command, encode};
 use kb_days::{Day, text};
@@ -83,6 +84,11 @@ static SEED_624: [Sent; 11] = [
     ("2024-03-01", b"\x0b\x02m2\x03k11\x01\x00\x00\x4d\x47"),
 ];
 
+/// The first command of the seed 7, and the last one for 200 accounts and 24 months.
+const FIRST_OF_SEED_7: Sent = ("2024-01-07", b"\x03\x02m1\x02k1USD\x15\x01");
+
+const LAST_OF_SEED_7: Sent = ("2026-01-01", b"\x0b\x04m200\x05k8859\x01\x00\x00\x4f\xe6");
+
 /// All commands of a seed, with their days.
 fn all_of(
     alloc: Global,
@@ -113,59 +119,53 @@ fn is_sent(alloc: Global, sent: &(Day, Command), row: Sent) -> Result<bool, Fail
     )
 }
 
-/// Whether all commands are those of the rows.
-fn are_sent(alloc: Global, all: &[(Day, Command)], rows: &[Sent]) -> Result<bool, Fail> {
-    if all.len() != rows.len() {
-        return Ok(false);
-    }
-    for (sent, row) in all.iter().zip(rows) {
+/// The place of the first command that isn't as its row says, if one isn't.
+fn first_other(
+    alloc: Global,
+    all: &[(Day, Command)],
+    rows: &[Sent],
+) -> Result<Option<usize>, Fail> {
+    for (place, (sent, row)) in all.iter().zip(rows).enumerate() {
         if !is_sent(alloc, sent, *row)? {
-            return Ok(false);
+            return Ok(Some(place));
         }
     }
-    Ok(true)
+    Ok(None)
 }
 
 #[test]
 fn an_account_of_eight_months(rt: HostRuntime) -> Result<(), Fail> {
     let all = all_of(rt.alloc(), 1, 1, 8)?;
-    assert!(rt; are_sent(rt.alloc(), &all, &SEED_1)?);
+    let other = first_other(rt.alloc(), &all, &SEED_1)?;
+    same(&rt, &(all.len(), other), &(17, None), &"seed 1");
     Ok(())
 }
 
 #[test]
 fn two_accounts_of_two_months(rt: HostRuntime) -> Result<(), Fail> {
     let all = all_of(rt.alloc(), 624, 2, 2)?;
-    assert!(rt; are_sent(rt.alloc(), &all, &SEED_624)?);
+    let other = first_other(rt.alloc(), &all, &SEED_624)?;
+    same(&rt, &(all.len(), other), &(11, None), &"seed 624");
     Ok(())
 }
 
 #[test]
 fn no_account(rt: HostRuntime) -> Result<(), Fail> {
     let all = all_of(rt.alloc(), 1, 0, 120)?;
-    assert!(rt; all.is_empty());
+    same(&rt, &all.len(), &0, &"no account");
     Ok(())
 }
 
 #[test]
 fn two_hundred_accounts_of_two_years(rt: HostRuntime) -> Result<(), Fail> {
     let all = all_of(rt.alloc(), 7, 200, 24)?;
-    assert_eq!(rt; all.len(), 8859);
     let first = all.first().ok_or("a first command")?;
-    assert!(rt;
-        is_sent(
-            rt.alloc(),
-            first,
-            ("2024-01-07", b"\x03\x02m1\x02k1USD\x15\x01")
-        )?
-    );
     let last = all.last().ok_or("a last command")?;
-    assert!(rt;
-        is_sent(
-            rt.alloc(),
-            last,
-            ("2026-01-01", b"\x0b\x04m200\x05k8859\x01\x00\x00\x4f\xe6")
-        )?
+    let found = (
+        all.len(),
+        is_sent(rt.alloc(), first, FIRST_OF_SEED_7)?,
+        is_sent(rt.alloc(), last, LAST_OF_SEED_7)?,
     );
+    same(&rt, &found, &(8859, true, true), &"seed 7");
     Ok(())
 }
