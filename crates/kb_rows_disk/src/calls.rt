@@ -1,5 +1,6 @@
 //! A disk in memory: what its calls answer, and the bytes that they leave.
 
+use crate::compare::same;
 use kb_disk::{Disk, Failed, MemoryDisk};
 use std::test::Fail;
 
@@ -28,15 +29,16 @@ fn each_call_fails_in_turn(rt: HostRuntime) -> Result<(), Fail> {
             .iter()
             .filter(|note| note.failed)
             .count();
-        assert_eq!(rt;
-            (told, disk.bytes(), failed, disk.faults()),
-            (
+        same(
+            &rt,
+            &(told, disk.bytes(), failed, disk.faults()),
+            &(
                 answers,
                 without_zeros(&bytes),
                 failing.min(1) as usize,
-                failing.min(1)
+                failing.min(1),
             ),
-            "call {failing} fails"
+            &failing,
         );
     }
     Ok(())

@@ -1,6 +1,7 @@
 //! What a crash may leave of a disk: the images that the rules give, by the definition, and images made by
 //! hand from the record of a disk's calls.
 
+use crate::compare::same;
 use kb_disk::{Disk, DiskCall, DiskNote, MemoryDisk};
 use std::alloc::{AllocError, Global};
 use std::test::Fail;
@@ -43,10 +44,11 @@ fn images_made_by_hand_are_images(rt: HostRuntime) -> Result<(), Fail> {
             .iter()
             .filter(|image| !is_among(image, &images))
             .count();
-        assert_eq!(rt;
-            (images.len(), strange, is_among(disk.bytes(), &images)),
-            (*count, 0, true),
-            "row {row}"
+        same(
+            &rt,
+            &(images.len(), strange, is_among(disk.bytes(), &images)),
+            &(*count, 0, true),
+            &row,
         );
     }
     Ok(())

@@ -1,5 +1,6 @@
 //! The worked journal of one record, and what its bytes tell when they are cut or changed.
 
+use crate::compare::same;
 use crate::journals::{count_of, with_record};
 use kb_journal::LoadFault;
 use std::test::Fail;
@@ -18,7 +19,7 @@ fn worked() -> [u8; 36] {
 fn one_record_makes_36_bytes(rt: HostRuntime) -> Result<(), Fail> {
     let alloc = rt.alloc();
     let bytes = with_record(alloc, &command())?;
-    assert_eq!(rt; bytes.as_slice(), worked().as_slice());
+    same(&rt, &bytes.as_slice(), &worked().as_slice(), &"");
     Ok(())
 }
 
@@ -32,7 +33,7 @@ fn the_file_is_cut_to_each_length(rt: HostRuntime) -> Result<(), Fail> {
             17..36 => Err(LoadFault::NotAJournal(16)),
             _ => Ok(1),
         };
-        assert_eq!(rt; count_of(alloc, &bytes[..len]), told, "{len} bytes");
+        same(&rt, &(count_of(alloc, &bytes[..len])), &told, &len);
     }
     Ok(())
 }
@@ -44,10 +45,11 @@ fn each_byte_is_changed(rt: HostRuntime) -> Result<(), Fail> {
         for value in [0, 1, 2, 255] {
             let mut bytes = worked();
             bytes[place] = value;
-            assert_eq!(rt;
-                count_of(alloc, &bytes),
-                told_of(place, value),
-                "{value} at {place}"
+            same(
+                &rt,
+                &(count_of(alloc, &bytes)),
+                &(told_of(place, value)),
+                &(value, place),
             );
         }
     }

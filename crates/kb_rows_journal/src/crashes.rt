@@ -1,5 +1,6 @@
 //! What crashes and failed calls leave of a journal.
 
+use crate::compare::same;
 use crate::journals::count_of;
 use kb_base::NoMemory;
 use kb_disk::{Disk, MemoryDisk};
@@ -35,10 +36,11 @@ fn each_call_fails_in_turn(rt: HostRuntime) -> Result<(), Fail> {
     let alloc = rt.alloc();
     for failing in 1..17 {
         let (acknowledged, bytes) = bytes_left(alloc, failing)?;
-        assert_eq!(rt;
-            (acknowledged, count_of(alloc, &bytes)),
-            left_by(failing),
-            "call {failing} fails"
+        same(
+            &rt,
+            &(acknowledged, count_of(alloc, &bytes)),
+            &left_by(failing),
+            &failing,
         );
     }
     Ok(())
@@ -87,9 +89,11 @@ fn each_call_of_a_load_fails_in_turn(rt: HostRuntime) -> Result<(), Fail> {
             (None, 0)
         };
         let (fault, faults, left) = failed_load(alloc, &bytes, failing)?;
-        assert_eq!(rt;
-            ((fault, faults), left.as_slice()),
-            (told, bytes.as_slice())
+        same(
+            &rt,
+            &((fault, faults), left.as_slice()),
+            &(told, bytes.as_slice()),
+            &"",
         );
     }
     Ok(())
@@ -101,7 +105,12 @@ fn a_crash_leaves_the_records_so_far(rt: HostRuntime) -> Result<(), Fail> {
     let (_, bytes) = bytes_left(alloc, 0)?;
     for backwards in [false, true] {
         let (strange, image) = written_in_steps(alloc, backwards)?;
-        assert_eq!(rt; (strange, image.as_slice()), (0, bytes.as_slice()));
+        same(
+            &rt,
+            &(strange, image.as_slice()),
+            &(0, bytes.as_slice()),
+            &"",
+        );
     }
     Ok(())
 }

@@ -1,4 +1,5 @@
 //! Journals on files of the system.
+use crate::compare::same;
 use kb_files::FileDisk;
 use kb_journal::{CreateFault, Disk, Journal, LoadFault};
 use std::fs::File;
@@ -45,9 +46,11 @@ fn a_file_is_read_as_it_was_written(rt: HostRuntime) -> Result<(), Fail> {
     let [one, two, three] = records.as_slice() else {
         return Err("not three records".into());
     };
-    assert_eq!(rt;
-        (one.as_slice(), two.as_slice(), three.as_slice()),
-        ([1].as_slice(), [2, 3].as_slice(), [4, 5, 6].as_slice())
+    same(
+        &rt,
+        &(one.as_slice(), two.as_slice(), three.as_slice()),
+        &([1].as_slice(), [2, 3].as_slice(), [4, 5, 6].as_slice()),
+        &"",
     );
     disk.cut(20)?;
     assert!(rt; matches!(loaded(&rt, disk), Err((LoadFault::NotAJournal(16), 0))));
@@ -61,7 +64,12 @@ fn a_file_that_takes_no_write_is_a_fault(rt: HostRuntime) -> Result<(), Fail> {
     let Err((fault, disk)) = Journal::create(disk, 0, 1) else {
         return Err("no fault".into());
     };
-    assert_eq!(rt; (fault, disk.faults()), (CreateFault::DiskFault, 1));
+    same(
+        &rt,
+        &(fault, disk.faults()),
+        &(CreateFault::DiskFault, 1),
+        &"",
+    );
     Ok(fs::remove_file(&rt, "read_only")?)
 }
 

@@ -4,6 +4,8 @@
 #[cfg(test)]
 mod bytes;
 #[cfg(test)]
+mod compare;
+#[cfg(test)]
 mod crashes;
 #[cfg(test)]
 mod files;

@@ -1,6 +1,7 @@
 //! No record, one, many, and the largest.
 ghost use Rattle.kb_journal.specs.Format.{IsSized};
 
+use crate::compare::same;
 use crate::journals::{loaded, with_record};
 use kb_base::NoMemory;
 use kb_disk::MemoryDisk;
@@ -40,9 +41,11 @@ fn records_are_read_as_they_were_added(rt: HostRuntime) -> Result<(), Fail> {
     for count in [0, 1, 300] {
         let bytes = numbered(alloc, count)?;
         let (records, lanes) = loaded(alloc, &bytes, 63)?;
-        assert_eq!(rt;
-            (records.len(), lanes, are_numbered(&records)),
-            (count as usize, 64, true)
+        same(
+            &rt,
+            &(records.len(), lanes, are_numbered(&records)),
+            &(count as usize, 64, true),
+            &"",
         );
     }
     Ok(())
@@ -61,6 +64,11 @@ fn is_read_back(alloc: Global, record: &[u8]) -> Result<bool, LoadFault>
 
 #[test]
 fn the_largest_record(rt: HostRuntime) -> Result<(), Fail> {
-    assert_eq!(rt; is_read_back(rt.alloc(), &[7; 65_536]), Ok(true));
+    same(
+        &rt,
+        &(is_read_back(rt.alloc(), &[7; 65_536])),
+        &Ok(true),
+        &"",
+    );
     Ok(())
 }

@@ -1,5 +1,6 @@
 //! A gateway over a link in memory.
 
+use crate::compare::same;
 use crate::orders::{ASK, LOOK, order_of};
 use kb_line_gateway::{Gateway, LineGateway, Seen, Told};
 use kb_links::PairLink;
@@ -73,18 +74,20 @@ fn what_a_line_tells(rt: HostRuntime) -> Result<(), Fail> {
         let mut gateway = gateway_of(alloc, bytes, 0, 0)?;
         let answer = gateway.ask(&order).ok();
         let link = gateway.into_link().inner;
-        assert_eq!(rt;
-            (answer, link.written(), link.left()),
-            (told, ASK, &bytes[count.min(bytes.len())..]),
-            "{bytes:?}"
+        same(
+            &rt,
+            &(answer, link.written(), link.left()),
+            &(told, ASK, &bytes[count.min(bytes.len())..]),
+            &bytes,
         );
         let mut gateway = gateway_of(alloc, bytes, 0, 0)?;
         let answer = gateway.look_up(&order).ok();
         let link = gateway.into_link().inner;
-        assert_eq!(rt;
-            (answer, link.written(), link.left()),
-            (seen, LOOK, &bytes[count.min(bytes.len())..]),
-            "{bytes:?}"
+        same(
+            &rt,
+            &(answer, link.written(), link.left()),
+            &(seen, LOOK, &bytes[count.min(bytes.len())..]),
+            &bytes,
         );
     }
     Ok(())
@@ -119,7 +122,12 @@ fn what_is_sent(rt: HostRuntime) -> Result<(), Fail> {
         let mut gateway = gateway_of(alloc, b"ERROR\n", 0, 0)?;
         let answer = gateway.ask(&order_of(kind, amount, currency)?);
         let link = gateway.into_link().inner;
-        assert_eq!(rt; (answer.ok(), link.written()), (Some(Told::Error), line));
+        same(
+            &rt,
+            &(answer.ok(), link.written()),
+            &(Some(Told::Error), line),
+            &"",
+        );
     }
     Ok(())
 }
@@ -155,15 +163,16 @@ fn calls_one_after_another(rt: HostRuntime) -> Result<(), Fail> {
         ];
         let faults = gateway.faults();
         let link = gateway.into_link().inner;
-        assert_eq!(rt;
-            (answers, faults, link.left(), link.written().len()),
-            (
+        same(
+            &rt,
+            &(answers, faults, link.left(), link.written().len()),
+            &(
                 [*answered > 0, *answered > 1, *answered > 2, *answered > 3],
                 4_u64.saturating_sub(*answered),
                 &bytes[(*count).min(bytes.len())..],
-                *written
+                *written,
             ),
-            "row {row}"
+            &row,
         );
     }
     Ok(())

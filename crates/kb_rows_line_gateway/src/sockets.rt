@@ -1,5 +1,6 @@
 //! A gateway over TCP, from this process to itself.
 
+use crate::compare::same;
 use crate::orders::{ASK, LOOK, order_of};
 use kb_line_gateway::{Gateway, LineGateway, LineMarket, Market, Order, Seen, Told};
 use kb_payment::Kind;
@@ -22,14 +23,16 @@ fn a_peer_answers_and_then_closes(rt: HostRuntime) -> Result<(), Fail> {
         || answer(&listener).unwrap_or(false),
         || ask(&mut gateway, &order),
     );
-    assert_eq!(rt;
-        (heard, told, gateway.faults(), market.faults()),
-        (
+    same(
+        &rt,
+        &(heard, told, gateway.faults(), market.faults()),
+        &(
             true,
             (Some(Told::Pending), Some(Seen::NotSeen), None, None),
             2,
-            0
-        )
+            0,
+        ),
+        &"",
     );
     Ok(())
 }
@@ -78,10 +81,11 @@ fn nobody_has_that_name(rt: HostRuntime) {
         ("localhost:65536", 3),
         ("127.0.0.1:0", 4),
     ] {
-        assert_eq!(rt;
-            (market.gateway(name, 0).is_err(), market.faults()),
-            (true, faults),
-            "{name}"
+        same(
+            &rt,
+            &(market.gateway(name, 0).is_err(), market.faults()),
+            &(true, faults),
+            &name,
         );
     }
 }

@@ -1,5 +1,6 @@
 //! Payments, step by step: what each call answers.
 
+use crate::compare::same;
 use kb_days::{Day, Name, parse};
 use kb_payment::{PayFault, Payments, Status};
 use std::alloc::Global;
@@ -158,12 +159,12 @@ fn payments_step_by_step(rt: HostRuntime) -> Result<(), Fail> {
     for step in &STEPS {
         match called(alloc, &payments, step, day)? {
             Ok((next, moved)) => {
-                assert_eq!(rt; (step.5, step.6), ("ok", moved), "{}", step.1);
+                same(&rt, &(step.5, step.6), &("ok", moved), &step.1);
                 payments = next;
             }
             Err(fault) => {
                 let told = fault.to_string(alloc)?;
-                assert_eq!(rt; told.as_str(), step.5, "{}", step.1);
+                same(&rt, &told.as_str(), &step.5, &step.1);
             }
         }
     }
@@ -194,18 +195,20 @@ fn what_is_asked_of_payments(rt: HostRuntime) -> Result<(), Fail> {
     let key = named("auto-3")?;
     let begun = Payments::new(alloc).purchase(alloc, key, 3, 5, None, day, true)?;
     let open = begun.open_attempts(alloc)?;
-    assert_eq!(rt; open.as_slice(), [key].as_slice());
-    assert_eq!(rt;
-        (
+    same(&rt, &open.as_slice(), &[key].as_slice(), &"");
+    same(
+        &rt,
+        &(
             begun.has_open_purchase(2),
             begun.has_open_purchase(3),
             begun.has_automatic_since(2, day),
             begun.has_automatic_since(3, day),
         ),
-        (false, true, false, true)
+        &(false, true, false, true),
+        &"",
     );
     let (paid, moved) = begun.settle(alloc, key, Status::Success)?;
-    assert_eq!(rt; (moved, paid.has_open_purchase(3)), (5, false));
+    same(&rt, &(moved, paid.has_open_purchase(3)), &(5, false), &"");
     Ok(())
 }
 

@@ -1,5 +1,6 @@
 //! Gateways in memory: what they answer, and what they note.
 
+use crate::compare::same;
 use kb_days::Name;
 use kb_gateway::{
     Gateway, Heard, ListGateway, ListMarket, Market, Order, Seen, Told, gateway_id, status_of,
@@ -20,41 +21,49 @@ fn a_gateway_answers_and_notes(rt: HostRuntime) -> Result<(), Fail> {
     let mut market = ListMarket::new(gateways, Vec::new(alloc));
     let mut gateway = market.gateway("shop", 0)?;
     let order = order_of("p1")?;
-    assert_eq!(rt;
-        (
+    same(
+        &rt,
+        &(
             gateway.ask(&order).ok(),
             gateway.ask(&order).ok(),
             gateway.ask(&order).ok(),
-            gateway.ask(&order).ok()
+            gateway.ask(&order).ok(),
         ),
-        (
+        &(
             Some(Told::Pending),
             None,
             Some(Told::Processed),
-            Some(Told::Undefined)
-        )
+            Some(Told::Undefined),
+        ),
+        &"",
     );
-    assert_eq!(rt;
-        (gateway.look_up(&order).ok(), gateway.look_up(&order).ok()),
-        (Some(Seen::Told(Told::Error)), Some(Seen::NotSeen))
+    same(
+        &rt,
+        &(gateway.look_up(&order).ok(), gateway.look_up(&order).ok()),
+        &(Some(Seen::Told(Told::Error)), Some(Seen::NotSeen)),
+        &"",
     );
     let asked = gateway.asked().ok_or("what was asked")?;
     let said = gateway.said().ok_or("what was said")?;
     let failed = said.get(1).ok_or("the second call")?;
     let unseen = said.get(5).ok_or("the last call")?;
-    assert_eq!(rt;
-        (
+    same(
+        &rt,
+        &(
             gateway.faults(),
             asked.len(),
             said.len(),
             failed.heard,
-            unseen.heard
+            unseen.heard,
         ),
-        (1, 4, 6, Heard::Failed, Heard::NotSeen)
+        &(1, 4, 6, Heard::Failed, Heard::NotSeen),
+        &"",
     );
-    assert_eq!(rt;
-        (market.gateway("shop", 1).is_err(), market.faults()),
-        (true, 1)
+    same(
+        &rt,
+        &(market.gateway("shop", 1).is_err(), market.faults()),
+        &(true, 1),
+        &"",
     );
     Ok(())
 }
@@ -75,20 +84,22 @@ fn order_of(key: &str) -> Result<Order, Fail> {
 
 #[test]
 fn what_a_gateway_tells_becomes_a_status(rt: HostRuntime) {
-    assert_eq!(rt;
-        (
+    same(
+        &rt,
+        &(
             status_of(Told::Processed),
             status_of(Told::Pending),
             status_of(Told::Error),
             status_of(Told::Canceled),
             status_of(Told::Undefined),
         ),
-        (
+        &(
             Status::Success,
             Status::Pending,
             Status::PaymentFailure,
             Status::PluginFailure,
             Status::Unknown,
-        )
+        ),
+        &"",
     );
 }

@@ -1,5 +1,6 @@
 //! Ids of payments.
 
+use crate::compare::same;
 use kb_days::Name;
 use kb_gateway::gateway_id;
 use std::test::Fail;
@@ -21,11 +22,13 @@ fn ids_of_payments(rt: HostRuntime) -> Result<(), Fail> {
         let account = Name::new(account.as_bytes()).ok_or("an account")?;
         let key = Name::new(key.as_bytes()).ok_or("a key")?;
         let mut text = [0; 36];
-        assert_eq!(rt;
-            &*gateway_id(account, key)
+        same(
+            &rt,
+            &(&*gateway_id(account, key)
                 .hyphenated()
-                .encode_lower(&mut text),
-            *id
+                .encode_lower(&mut text)),
+            &(*id),
+            &"",
         );
     }
     Ok(())

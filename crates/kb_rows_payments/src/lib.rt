@@ -4,6 +4,8 @@
 #[cfg(test)]
 mod attempts;
 #[cfg(test)]
+mod compare;
+#[cfg(test)]
 mod gateways;
 #[cfg(test)]
 mod ids;

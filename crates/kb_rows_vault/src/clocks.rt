@@ -1,5 +1,6 @@
 //! Clocks: the day that they give.
 
+use crate::compare::same;
 use kb_clock::{Clock, FixedClock, SystemClock};
 use kb_days::Day;
 use std::io::ErrorKind;
@@ -46,7 +47,7 @@ const DAYS: [(Option<u64>, u32); 6] = [
 fn days_of_a_system(rt: HostRuntime) {
     for (seconds, day) in DAYS {
         let system = Standing { seconds };
-        assert_eq!(rt; number_of(&SystemClock::new(&system)), day);
+        same(&rt, &number_of(&SystemClock::new(&system)), &day, &"");
     }
 }
 
@@ -58,6 +59,6 @@ fn a_day_of_this_system(rt: HostRuntime) {
 #[test]
 fn a_fixed_day(rt: HostRuntime) -> Result<(), Fail> {
     let day = Day::new(19_783).ok_or("a day")?;
-    assert_eq!(rt; number_of(&FixedClock::new(day)), 19_783);
+    same(&rt, &number_of(&FixedClock::new(day)), &19_783, &"");
     Ok(())
 }

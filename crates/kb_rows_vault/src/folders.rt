@@ -1,5 +1,6 @@
 //! Folders of the system.
 
+use crate::compare::same;
 use crate::keeping::kept_by;
 use kb_folders::FolderVault;
 use kb_vault::{FileFault, Vault};
@@ -13,9 +14,11 @@ fn a_folder_keeps_what_was_written(rt: HostRuntime) -> Result<(), Fail> {
     let mut vault = FolderVault::new(alloc, &rt);
     let kept = kept_by(&mut vault, alloc)?;
     let written = fs::read(&rt, "shop/lane-03.kbj")?;
-    assert_eq!(rt;
-        (kept, written.as_slice()),
-        ((2, [7, 8, 0]), [7, 8].as_slice())
+    same(
+        &rt,
+        &(kept, written.as_slice()),
+        &((2, [7, 8, 0]), [7, 8].as_slice()),
+        &"",
     );
     fs::remove_file(&rt, "shop/lane-03.kbj")?;
     Ok(fs::remove_dir(&rt, "shop")?)
@@ -28,9 +31,11 @@ fn a_folder_must_be_there(rt: HostRuntime) -> Result<(), Fail> {
     let Err(fault) = vault.lane(alloc, "nowhere", 0) else {
         return Err("a lane in no folder".into());
     };
-    assert_eq!(rt;
-        (fault, vault.file(alloc, "nowhere").is_err()),
-        (FileFault::Failed, true)
+    same(
+        &rt,
+        &(fault, vault.file(alloc, "nowhere").is_err()),
+        &(FileFault::Failed, true),
+        &"",
     );
     Ok(())
 }
@@ -40,9 +45,9 @@ fn a_long_text_is_cut(rt: HostRuntime) -> Result<(), Fail> {
     let alloc = rt.alloc();
     fs::write(&rt, "text", vec![in alloc; 7; 60_002]?.as_slice())?;
     let bytes = FolderVault::new(alloc, &rt).file(alloc, "text")?;
-    assert_eq!(rt; bytes.len(), 60_001);
+    same(&rt, &bytes.len(), &60_001, &"");
     fs::write(&rt, "text", "abc")?;
     let bytes = FolderVault::new(alloc, &rt).file(alloc, "text")?;
-    assert_eq!(rt; bytes.as_slice(), b"abc".as_slice());
+    same(&rt, &bytes.as_slice(), &b"abc".as_slice(), &"");
     Ok(fs::remove_file(&rt, "text")?)
 }

@@ -1,5 +1,6 @@
 //! A vault in memory: what it gives, and which calls fail.
 
+use crate::compare::same;
 use crate::keeping::kept_by;
 use kb_disk::Disk;
 use kb_vault::{FileFault, LaneFile, MemoryVault, TextFile, Vault};
@@ -10,7 +11,7 @@ use std::test::Fail;
 fn a_lane_keeps_what_was_written(rt: HostRuntime) -> Result<(), Fail> {
     let alloc = rt.alloc();
     let mut vault = MemoryVault::new(Vec::new(alloc), Vec::new(alloc), Vec::new(alloc));
-    assert_eq!(rt; kept_by(&mut vault, alloc)?, (2, [7, 8, 0]));
+    same(&rt, &(kept_by(&mut vault, alloc)?), &(2, [7, 8, 0]), &"");
     Ok(())
 }
 
@@ -29,10 +30,11 @@ fn each_call_fails_in_turn(rt: HostRuntime) -> Result<(), Fail> {
     let alloc = rt.alloc();
     for (failing, of_disk, text, lane, faults) in ROWS {
         let (told, counted) = answers(alloc, failing, of_disk)?;
-        assert_eq!(rt;
-            (told, counted),
-            ((text, lane), faults),
-            "{failing} and {of_disk} fail"
+        same(
+            &rt,
+            &(told, counted),
+            &((text, lane), faults),
+            &(failing, of_disk),
         );
     }
     Ok(())

@@ -1,5 +1,6 @@
 //! A source and a sink in memory, and all bytes to a sink.
 
+use crate::compare::same;
 use kb_ports::{BytesSink, BytesSource, Failed, Sink, Sips, Source, write_all};
 use std::test::Fail;
 
@@ -15,16 +16,17 @@ fn the_second_write_fails(rt: HostRuntime) -> Result<(), Fail> {
         ("", Ok(0), "abcdefg", 1),
     ];
     for (text, answer, bytes, faults) in cases {
-        assert_eq!(rt; sink.write(text.as_bytes()), answer, "after {text}");
-        assert_eq!(rt;
-            (sink.bytes(), sink.faults()),
-            (bytes.as_bytes(), faults),
-            "after {text}"
+        same(&rt, &sink.write(text.as_bytes()), &answer, &text);
+        same(
+            &rt,
+            &(sink.bytes(), sink.faults()),
+            &(bytes.as_bytes(), faults),
+            &text,
         );
     }
-    assert_eq!(rt; sink.calls(), 4);
+    same(&rt, &sink.calls(), &4, &"");
     let bytes = sink.into_bytes();
-    assert_eq!(rt; bytes.as_slice(), b"abcdefg".as_slice());
+    same(&rt, &bytes.as_slice(), &b"abcdefg".as_slice(), &"");
     Ok(())
 }
 
@@ -48,10 +50,10 @@ fn all_bytes_in_buffers_of_any_size(rt: HostRuntime) -> Result<(), Fail> {
         let mut seen = Vec::new(alloc);
         for count in counts {
             let given = read_from(&mut source, &mut buf[..room])?;
-            assert_eq!(rt; given, count, "buffers of {room}");
+            assert_eq!(rt; given, count);
             seen.extend_from_slice(&buf[..given])?;
         }
-        assert_eq!(rt; seen.as_slice(), b"hello".as_slice(), "buffers of {room}");
+        same(&rt, &seen.as_slice(), &b"hello".as_slice(), &room);
     }
     Ok(())
 }
@@ -70,14 +72,15 @@ fn the_second_read_fails(rt: HostRuntime) -> Result<(), Fail> {
         (Ok(0), "", 1),
     ];
     for (answer, left, faults) in cases {
-        assert_eq!(rt; source.read(&mut buf), answer, "before {left}");
-        assert_eq!(rt;
-            (source.left(), source.faults()),
-            (left.as_bytes(), faults),
-            "before {left}"
+        same(&rt, &(source.read(&mut buf)), &answer, &left);
+        same(
+            &rt,
+            &(source.left(), source.faults()),
+            &(left.as_bytes(), faults),
+            &left,
         );
     }
-    assert_eq!(rt; source.calls(), 5);
+    same(&rt, &source.calls(), &5, &"");
     Ok(())
 }
 
@@ -98,11 +101,12 @@ fn all_bytes_in_sips_of_any_size(rt: HostRuntime) -> Result<(), Fail> {
         assert!(rt; 1 <= most);
         let inner = BytesSink::new(Vec::new(alloc), vec![in alloc; failing]?);
         let mut sips = Sips { inner, most };
-        assert_eq!(rt; write_all(&mut sips, b"hello"), answer, "sips of {most}");
-        assert_eq!(rt;
-            (sips.inner.bytes(), sips.inner.calls()),
-            (bytes.as_bytes(), calls),
-            "sips of {most}"
+        same(&rt, &(write_all(&mut sips, b"hello")), &answer, &most);
+        same(
+            &rt,
+            &(sips.inner.bytes(), sips.inner.calls()),
+            &(bytes.as_bytes(), calls),
+            &most,
         );
     }
     Ok(())
@@ -112,6 +116,6 @@ fn all_bytes_in_sips_of_any_size(rt: HostRuntime) -> Result<(), Fail> {
 fn nothing_needs_no_call(rt: HostRuntime) -> Result<(), Fail> {
     let mut sink = BytesSink::new(Vec::new(rt.alloc()), Vec::new(rt.alloc()));
     write_all(&mut sink, b"")?;
-    assert_eq!(rt; sink.calls(), 0);
+    same(&rt, &sink.calls(), &0, &"");
     Ok(())
 }

@@ -1,5 +1,6 @@
 //! Texts of days. The rows set a text beside the number of its day.
 
+use crate::compare::same;
 use kb_days::{BadDate, Reach, parse, text};
 use std::test::Fail;
 
@@ -16,11 +17,12 @@ fn texts_that_are_read(rt: HostRuntime) -> Result<(), Fail> {
     ];
     for (written, number) in cases {
         let day = parse(written.as_bytes())?;
-        assert_eq!(rt; day.number(), number, "{written}");
-        assert_eq!(rt;
-            text(day.reach()).as_slice(),
-            written.as_bytes(),
-            "{written}"
+        same(&rt, &day.number(), &number, &written);
+        same(
+            &rt,
+            &text(day.reach()).as_slice(),
+            &written.as_bytes(),
+            &written,
         );
     }
     Ok(())
@@ -56,7 +58,7 @@ fn texts_that_are_refused(rt: HostRuntime) {
         "2024-03-10T",
     ];
     for written in cases {
-        assert_eq!(rt; parse(written.as_bytes()), Err(BadDate), "{written}");
+        same(&rt, &parse(written.as_bytes()), &Err(BadDate), &written);
     }
 }
 
@@ -71,7 +73,7 @@ fn texts_of_days_that_may_follow(rt: HostRuntime) -> Result<(), Fail> {
     ];
     for (number, written) in cases {
         let reach = Reach::new(number).ok_or("a reach")?;
-        assert_eq!(rt; text(reach).as_slice(), written.as_bytes(), "{number}");
+        same(&rt, &text(reach).as_slice(), &written.as_bytes(), &number);
     }
     Ok(())
 }

@@ -1,5 +1,6 @@
 //! Numbers of days, their months and their cycle days. The rows are about the numbers themselves.
 
+use crate::compare::same;
 use kb_days::{Bcd, Count, Day, Reach, Span, day_of_month, mark, month_of};
 use std::test::Fail;
 
@@ -22,21 +23,24 @@ fn numbers_at_the_ends_of_each_range(rt: HostRuntime) -> Result<(), Fail> {
         (u32::MAX, false, false, false),
     ];
     for (number, is_day, is_reach, is_bcd) in cases {
-        assert_eq!(rt;
-            (
+        same(
+            &rt,
+            &(
                 Day::new(number).is_some(),
                 Reach::new(number).is_some(),
                 Bcd::new(number).is_some(),
             ),
-            (is_day, is_reach, is_bcd),
-            "{number}"
+            &(is_day, is_reach, is_bcd),
+            &number,
         );
     }
     let day = Day::new(19_792).ok_or("a day")?;
     let bcd = Bcd::new(31).ok_or("a cycle day")?;
-    assert_eq!(rt;
-        (day.number(), day.reach().number(), bcd.number()),
-        (19_792, 19_792, 31)
+    same(
+        &rt,
+        &(day.number(), day.reach().number(), bcd.number()),
+        &(19_792, 19_792, 31),
+        &"",
     );
     Ok(())
 }
@@ -51,10 +55,10 @@ fn counts_at_the_ends_of_their_range(rt: HostRuntime) -> Result<(), Fail> {
         (u32::MAX, false),
     ];
     for (number, is_count) in cases {
-        assert_eq!(rt; Count::new(number).is_some(), is_count, "{number}");
+        same(&rt, &Count::new(number).is_some(), &is_count, &number);
     }
     let count = Count::new(12).ok_or("a count")?;
-    assert_eq!(rt; count.number(), 12);
+    same(&rt, &count.number(), &12, &"");
     assert!(rt; Span::Days(count) < Span::Weeks(count));
     assert!(rt; Span::Months(count) != Span::Unlimited);
     Ok(())
@@ -81,10 +85,11 @@ fn months_and_numbers_of_days(rt: HostRuntime) -> Result<(), Fail> {
     ];
     for (number, month, day) in cases {
         let reach = Reach::new(number).ok_or("a reach")?;
-        assert_eq!(rt;
-            (month_of(reach), day_of_month(reach)),
-            (month, day),
-            "{number}"
+        same(
+            &rt,
+            &(month_of(reach), day_of_month(reach)),
+            &(month, day),
+            &number,
         );
     }
     Ok(())
@@ -110,7 +115,7 @@ fn marks_at_month_ends(rt: HostRuntime) -> Result<(), Fail> {
     for (month, number, day) in cases {
         assert!(rt; (329..=1608).contains(&month));
         let bcd = Bcd::new(number).ok_or("a cycle day")?;
-        assert_eq!(rt; mark(month, bcd).number(), day, "{number} in {month}");
+        same(&rt, &(mark(month, bcd).number()), &day, &(number, month));
     }
     Ok(())
 }

@@ -6,6 +6,8 @@
 #[cfg(test)]
 mod bytes;
 #[cfg(test)]
+mod compare;
+#[cfg(test)]
 mod dates;
 #[cfg(test)]
 mod days;

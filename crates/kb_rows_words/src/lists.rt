@@ -1,5 +1,6 @@
 //! Counts of faults, lists, and lists whose members are shared.
 
+use crate::compare::same;
 use kb_base::{Failed, FaultCount, Seq, shared};
 use std::sync::Arc;
 use std::test::Fail;
@@ -8,30 +9,35 @@ use std::test::Fail;
 fn failed_calls_are_counted(rt: HostRuntime) {
     let mut faults = FaultCount::new();
     for count in 1..4 {
-        assert_eq!(rt; (faults.fail(), faults.number()), (Failed, count));
+        same(
+            &rt,
+            &(faults.fail(), faults.number()),
+            &(Failed, count),
+            &"",
+        );
     }
     let three = faults;
     faults.add(three);
-    assert_eq!(rt; faults.number(), 6);
+    same(&rt, &faults.number(), &6, &"");
 }
 
 #[test]
 fn a_count_stands_still_at_its_last_value(rt: HostRuntime) {
     let mut last = FaultCount::new();
-    assert_eq!(rt; last.fail(), Failed);
+    same(&rt, &last.fail(), &Failed, &"");
     // Twice as many each time.
     for _ in 0..64 {
         let as_many = last;
         last.add(as_many);
     }
-    assert_eq!(rt; last.number(), u64::MAX);
-    assert_eq!(rt; (last.fail(), last.number()), (Failed, u64::MAX));
+    same(&rt, &last.number(), &u64::MAX, &"");
+    same(&rt, &(last.fail(), last.number()), &(Failed, u64::MAX), &"");
     let mut six = FaultCount::new();
     for _ in 0..6 {
-        assert_eq!(rt; six.fail(), Failed);
+        same(&rt, &six.fail(), &Failed, &"");
     }
     six.add(last);
-    assert_eq!(rt; six.number(), u64::MAX);
+    same(&rt, &six.number(), &u64::MAX, &"");
 }
 
 #[test]
@@ -41,10 +47,15 @@ fn members_stand_in_the_order_in_which_they_came(rt: HostRuntime) -> Result<(), 
     for member in [5u8, 6, 5] {
         seq.push(member)?;
     }
-    assert_eq!(rt; (seq.is_empty(), seq.len()), (false, 3));
-    assert_eq!(rt; seq.as_slice(), [5u8, 6, 5].as_slice());
+    same(&rt, &(seq.is_empty(), seq.len()), &(false, 3), &"");
+    same(&rt, &seq.as_slice(), &([5u8, 6, 5].as_slice()), &"");
     let members = seq.into_vec();
-    assert_eq!(rt; Seq::from_vec(members).as_slice(), [5u8, 6, 5].as_slice());
+    same(
+        &rt,
+        &Seq::from_vec(members).as_slice(),
+        &([5u8, 6, 5].as_slice()),
+        &"",
+    );
     Ok(())
 }
 
@@ -55,6 +66,6 @@ fn shared_members_are_the_same(rt: HostRuntime) -> Result<(), Fail> {
     members.push(Arc::new(alloc, 5u8)?)?;
     members.push(Arc::new(alloc, 6)?)?;
     let copy = shared(alloc, members.as_slice())?;
-    assert_eq!(rt; (copy.len(), *copy[0], *copy[1]), (2, 5, 6));
+    same(&rt, &(copy.len(), *copy[0], *copy[1]), &(2, 5, 6), &"");
     Ok(())
 }

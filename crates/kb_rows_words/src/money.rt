@@ -1,15 +1,21 @@
 //! Prices, parts of a period, and currencies.
 
+use crate::compare::same;
 use kb_money::{Currency, MAX_DAYS, MAX_MINOR, Minor, cum, part};
 use std::test::Fail;
 
 #[test]
 fn ends_of_a_price(rt: HostRuntime) -> Result<(), Fail> {
     for units in [0, 1, 1_000_000_000] {
-        assert_eq!(rt; Minor::new(units).ok_or("a price")?.units(), units);
+        same(
+            &rt,
+            &(Minor::new(units).ok_or("a price")?.units()),
+            &units,
+            &"",
+        );
     }
     for units in [1_000_000_001, u64::MAX] {
-        assert_eq!(rt; Minor::new(units), None, "{units}");
+        same(&rt, &Minor::new(units), &None, &units);
     }
     Ok(())
 }
@@ -33,10 +39,11 @@ fn parts_of_a_period(rt: HostRuntime) -> Result<(), Fail> {
     for (units, days, from, to, cost) in cases {
         let price = Minor::new(units).ok_or("a price")?;
         assert!(rt; from <= to && to <= days && 1 <= days && days <= MAX_DAYS);
-        assert_eq!(rt;
-            part(price, days, from, to),
-            cost,
-            "{units}: {from} to {to}"
+        same(
+            &rt,
+            &(part(price, days, from, to)),
+            &cost,
+            &(units, from, to),
         );
     }
     Ok(())
@@ -56,10 +63,11 @@ fn halves_are_rounded_up(rt: HostRuntime) -> Result<(), Fail> {
     for (units, days, count, total) in cases {
         let price = Minor::new(units).ok_or("a price")?;
         assert!(rt; count <= days && 1 <= days && days <= MAX_DAYS);
-        assert_eq!(rt;
-            cum(price, days, count),
-            total,
-            "{units}: {count} of {days}"
+        same(
+            &rt,
+            &(cum(price, days, count)),
+            &total,
+            &(units, count, days),
         );
     }
     Ok(())
@@ -69,11 +77,11 @@ fn halves_are_rounded_up(rt: HostRuntime) -> Result<(), Fail> {
 fn codes_of_currencies(rt: HostRuntime) -> Result<(), Fail> {
     for code in ["USD", "AAA", "ZZZ"] {
         let currency = Currency::new(code.as_bytes()).ok_or("a currency")?;
-        assert_eq!(rt; currency.as_bytes(), code.as_bytes());
-        assert_eq!(rt; currency.to_string(rt.alloc())?.as_str(), code);
+        same(&rt, &currency.as_bytes(), &code.as_bytes(), &"");
+        same(&rt, &(currency.to_string(rt.alloc())?.as_str()), &code, &"");
     }
     for other in ["", "US", "USDT", "usd", "US1", "US[", "US@", "É1"] {
-        assert_eq!(rt; Currency::new(other.as_bytes()), None, "{other}");
+        same(&rt, &Currency::new(other.as_bytes()), &None, &other);
     }
     Ok(())
 }

@@ -1,5 +1,6 @@
 //! Names: which texts are taken, their order, and names as keys.
 
+use crate::compare::same;
 use kb_days::Name;
 use std::collections::{BTreeMap, HashMap};
 use std::test::Fail;
@@ -19,8 +20,8 @@ fn names_that_are_taken(rt: HostRuntime) -> Result<(), Fail> {
     ];
     for written in cases {
         let name = Name::new(written.as_bytes()).ok_or("a name")?;
-        assert_eq!(rt; name.as_bytes(), written.as_bytes(), "{written}");
-        assert_eq!(rt; name.as_str(), written, "{written}");
+        same(&rt, &name.as_bytes(), &written.as_bytes(), &written);
+        same(&rt, &name.as_str(), &written, &written);
     }
     Ok(())
 }
@@ -43,7 +44,12 @@ fn names_that_are_refused(rt: HostRuntime) {
         "a2345678901234567890123456789012345678901234567890123456789012345",
     ];
     for written in cases {
-        assert!(rt; Name::new(written.as_bytes()).is_none(), "{written}");
+        same(
+            &rt,
+            &Name::new(written.as_bytes()).is_none(),
+            &true,
+            &written,
+        );
     }
 }
 
@@ -56,8 +62,8 @@ fn order_of_names(rt: HostRuntime) -> Result<(), Fail> {
     for later in 1..cases.len() {
         let first = Name::new(cases[later - 1].as_bytes()).ok_or("a name")?;
         let second = Name::new(cases[later].as_bytes()).ok_or("a name")?;
-        assert!(rt; first < second, "{first} and {second}");
-        assert!(rt; first != second, "{first} and {second}");
+        same(&rt, &(first < second), &true, &(first, second));
+        same(&rt, &(first != second), &true, &(first, second));
     }
     Ok(())
 }
@@ -66,18 +72,23 @@ fn order_of_names(rt: HostRuntime) -> Result<(), Fail> {
 fn names_as_texts_and_keys(rt: HostRuntime) -> Result<(), Fail> {
     let alloc = rt.alloc();
     let gold = Name::new(b"gold").ok_or("a name")?;
-    assert_eq!(rt; gold.to_string(alloc)?.as_str(), "gold");
-    assert_eq!(rt; format!(in alloc; "{gold:?}")?.as_str(), "\"gold\"");
+    same(&rt, &(gold.to_string(alloc)?.as_str()), &"gold", &"");
+    same(
+        &rt,
+        &(format!(in alloc; "{gold:?}")?.as_str()),
+        &("\"gold\""),
+        &"",
+    );
 
     let other = Name::new(b"gol").ok_or("a name")?;
     let mut ordered = BTreeMap::new(alloc);
     ordered.insert(gold, 1)?;
-    assert_eq!(rt; ordered.get(&gold).copied(), Some(1));
+    same(&rt, &ordered.get(&gold).copied(), &Some(1), &"");
     assert!(rt; ordered.get(&other).is_none());
 
     let mut hashed = HashMap::new(alloc);
     hashed.insert(gold, 1)?;
-    assert_eq!(rt; hashed.get(&gold).copied(), Some(1));
+    same(&rt, &hashed.get(&gold).copied(), &Some(1), &"");
     assert!(rt; hashed.get(&other).is_none());
     Ok(())
 }

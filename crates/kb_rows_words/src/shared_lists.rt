@@ -1,5 +1,6 @@
 //! Shared lists: what each edit gives, and that it leaves the list that it was called on.
 
+use crate::compare::same;
 use kb_base::NoMemory;
 use kb_days::Name;
 use kb_sharing::SharedList;
@@ -22,9 +23,9 @@ fn numbers(alloc: Global) -> Result<SharedList<u64>, Fail> {
 fn members_come_back_in_their_order(rt: HostRuntime) -> Result<(), Fail> {
     let list = numbers(rt.alloc())?;
     for place in 0..COUNT {
-        assert_eq!(rt; list.get(place), Some(&place));
+        same(&rt, &list.get(place), &Some(&place), &"");
     }
-    assert_eq!(rt; (list.len(), list.get(COUNT)), (COUNT, None));
+    same(&rt, &(list.len(), list.get(COUNT)), &(COUNT, None), &"");
     Ok(())
 }
 
@@ -52,7 +53,12 @@ fn an_edit_leaves_the_list_that_it_was_called_on(rt: HostRuntime) -> Result<(), 
     let list = numbers(rt.alloc())?;
     for place in 0..COUNT {
         let found = edits_at(rt.alloc(), &list, place)?;
-        assert_eq!(rt; found, Some((Some(place), Some(COUNT), Some(place))));
+        same(
+            &rt,
+            &found,
+            &(Some((Some(place), Some(COUNT), Some(place)))),
+            &"",
+        );
     }
     Ok(())
 }
@@ -64,6 +70,11 @@ fn members_may_be_names(rt: HostRuntime) -> Result<(), Fail> {
     let list = SharedList::new()
         .push(rt.alloc(), gold)?
         .push(rt.alloc(), silver)?;
-    assert_eq!(rt; (list.get(0), list.get(1)), (Some(&gold), Some(&silver)));
+    same(
+        &rt,
+        &(list.get(0), list.get(1)),
+        &(Some(&gold), Some(&silver)),
+        &"",
+    );
     Ok(())
 }

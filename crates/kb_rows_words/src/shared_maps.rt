@@ -1,6 +1,7 @@
 //! Shared maps: what each change gives, in which order entries stand, and that the map is left as it was.
 ghost use Rattle.std.specs.Prelude.{◌≡◌, Some, IfOk};
 
+use crate::compare::same;
 use kb_base::NoMemory;
 use kb_days::Name;
 use kb_sharing::SharedMap;
@@ -35,9 +36,9 @@ fn squares(alloc: Global) -> Result<SharedMap<u32, u32>, Fail> {
 fn each_key_has_its_value(rt: HostRuntime) -> Result<(), Fail> {
     let map = squares(rt.alloc())?;
     for number in 0..1_000u32 {
-        assert_eq!(rt; map.get(&number), Some(&(number * number)));
+        same(&rt, &map.get(&number), &(Some(&(number * number))), &"");
     }
-    assert_eq!(rt; (map.len(), map.get(&1_000)), (1_000, None));
+    same(&rt, &(map.len(), map.get(&1_000)), &(1_000, None), &"");
     Ok(())
 }
 
@@ -47,13 +48,15 @@ fn entries_stand_in_the_order_of_their_keys(rt: HostRuntime) -> Result<(), Fail>
     let entries = map.entries(rt.alloc())?;
     let mut next = map.first();
     for (number, (key, value)) in (0..1_000u32).zip(entries.as_slice()) {
-        assert_eq!(rt;
-            (next, **key, map.get(&number)),
-            (Some((*key, *value)), number, Some(*value))
+        same(
+            &rt,
+            &(next, **key, map.get(&number)),
+            &(Some((*key, *value)), number, Some(*value)),
+            &"",
         );
         next = map.after(key);
     }
-    assert_eq!(rt; (entries.len(), next), (1_000, None));
+    same(&rt, &(entries.len(), next), &(1_000, None), &"");
     Ok(())
 }
 
@@ -64,13 +67,18 @@ fn a_change_leaves_the_map_that_it_was_called_on(rt: HostRuntime) -> Result<(), 
         let changed = map.with(rt.alloc(), number, 7)?;
         let longer = map.share()?.with(rt.alloc(), number + 1_000, 7)?;
         let lens = (map.len(), changed.len(), longer.len());
-        assert_eq!(rt; lens, (1_000, 1_000, 1_001));
+        same(&rt, &lens, &(1_000, 1_000, 1_001), &"");
         let found = (
             map.get(&number),
             changed.get(&number),
             longer.get(&(number + 1_000)),
         );
-        assert_eq!(rt; found, (Some(&(number * number)), Some(&7), Some(&7)));
+        same(
+            &rt,
+            &found,
+            &(Some(&(number * number)), Some(&7), Some(&7)),
+            &"",
+        );
     }
     Ok(())
 }
@@ -80,10 +88,17 @@ fn names_are_keys(rt: HostRuntime) -> Result<(), Fail> {
     let silver = Name::new(b"silver").ok_or("a name")?;
     let gold = Name::new(b"gold").ok_or("a name")?;
     let map = SharedMap::new().with(rt.alloc(), silver, 5u64)?;
-    assert_eq!(rt; kept_and_found(rt.alloc(), &map, gold, 6)?, Some(6));
-    assert_eq!(rt;
-        (map.first(), map.after(&gold), map.after(&silver)),
-        (Some((&silver, &5)), Some((&silver, &5)), None)
+    same(
+        &rt,
+        &(kept_and_found(rt.alloc(), &map, gold, 6)?),
+        &Some(6),
+        &"",
+    );
+    same(
+        &rt,
+        &(map.first(), map.after(&gold), map.after(&silver)),
+        &(Some((&silver, &5)), Some((&silver, &5)), None),
+        &"",
     );
     Ok(())
 }

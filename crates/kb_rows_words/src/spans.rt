@@ -1,5 +1,6 @@
 //! The day that comes a span after another, and billing periods.
 
+use crate::compare::same;
 use kb_days::{Count, Period, Reach, Span, add, parse};
 use std::test::Fail;
 
@@ -16,10 +17,11 @@ fn days_and_weeks(rt: HostRuntime) -> Result<(), Fail> {
         let count = Count::new(count).ok_or("a count")?;
         let days = parse(days.as_bytes())?.reach();
         let weeks = parse(weeks.as_bytes())?.reach();
-        assert_eq!(rt;
-            (add(day, Span::Days(count)), add(day, Span::Weeks(count))),
-            (Some(days), Some(weeks)),
-            "{date}"
+        same(
+            &rt,
+            &(add(day, Span::Days(count)), add(day, Span::Weeks(count))),
+            &(Some(days), Some(weeks)),
+            &date,
         );
     }
     Ok(())
@@ -42,10 +44,11 @@ fn months_and_years(rt: HostRuntime) -> Result<(), Fail> {
         let count = Count::new(count).ok_or("a count")?;
         let months = parse(months.as_bytes())?.reach();
         let years = parse(years.as_bytes())?.reach();
-        assert_eq!(rt;
-            (add(day, Span::Months(count)), add(day, Span::Years(count))),
-            (Some(months), Some(years)),
-            "{date}"
+        same(
+            &rt,
+            &(add(day, Span::Months(count)), add(day, Span::Years(count))),
+            &(Some(months), Some(years)),
+            &date,
         );
     }
     let day = parse(b"2024-03-10")?.reach();
@@ -68,13 +71,14 @@ fn days_and_weeks_at_the_ends(rt: HostRuntime) -> Result<(), Fail> {
     for (number, count, days, weeks) in cases {
         let day = Reach::new(number).ok_or("a reach")?;
         let count = Count::new(count).ok_or("a count")?;
-        assert_eq!(rt;
-            (
+        same(
+            &rt,
+            &(
                 add(day, Span::Days(count)).map(Reach::number),
                 add(day, Span::Weeks(count)).map(Reach::number),
             ),
-            (days, weeks),
-            "{number}"
+            &(days, weeks),
+            &number,
         );
     }
     Ok(())
@@ -95,13 +99,14 @@ fn months_and_years_at_the_end(rt: HostRuntime) -> Result<(), Fail> {
     for (number, count, months, years) in cases {
         let day = Reach::new(number).ok_or("a reach")?;
         let count = Count::new(count).ok_or("a count")?;
-        assert_eq!(rt;
-            (
+        same(
+            &rt,
+            &(
                 add(day, Span::Months(count)).map(Reach::number),
                 add(day, Span::Years(count)).map(Reach::number),
             ),
-            (months, years),
-            "{number}"
+            &(months, years),
+            &number,
         );
     }
     Ok(())
@@ -123,10 +128,11 @@ fn lengths_and_words_of_periods(rt: HostRuntime) {
         (Period::NoBillingPeriod, None, None, "NO_BILLING_PERIOD"),
     ];
     for (period, days, months, word) in cases {
-        assert_eq!(rt;
-            (period.days(), period.months(), period.word()),
-            (days, months, word.as_bytes()),
-            "{word}"
+        same(
+            &rt,
+            &(period.days(), period.months(), period.word()),
+            &(days, months, word.as_bytes()),
+            &word,
         );
     }
 }

@@ -1,5 +1,6 @@
 //! The members of what is read.
 
+use crate::compare::same;
 use crate::said::words_of;
 use kb_words::{Report, ReportKind, Within, Words, read_words};
 use std::test::Fail;
@@ -23,13 +24,14 @@ fn a_report_by_its_members(rt: HostRuntime) -> Result<(), Fail> {
         let line = format!(in alloc; "report --dir=shop --day 2024-03-10 --kind {word}")?;
         let words = words_of(alloc, line.as_str())?;
         let report = report_of(read_words(alloc, &words)?).ok_or("a report")?;
-        assert_eq!(rt; report.dir.as_str(), "shop", "{word}");
-        assert_eq!(rt;
-            (report.kind, report.day.number()),
-            (kind, 19_792),
-            "{word}"
+        same(&rt, &report.dir.as_str(), &"shop", &word);
+        same(
+            &rt,
+            &(report.kind, report.day.number()),
+            &(kind, 19_792),
+            &word,
         );
-        assert_eq!(rt; kind.word(), word);
+        same(&rt, &kind.word(), &word, &"");
     }
     Ok(())
 }
@@ -45,6 +47,6 @@ fn numbers_in_a_range(rt: HostRuntime) {
     ];
     for (number, held) in cases {
         let within = Within::<1, 64>::new(number);
-        assert_eq!(rt; within.map(|within| within.get()), held, "{number}");
+        same(&rt, &(within.map(|within| within.get())), &held, &number);
     }
 }

@@ -1,5 +1,6 @@
 //! Words that are read, beside what they say.
 
+use crate::compare::same;
 use crate::said::said;
 use std::test::Fail;
 
@@ -168,7 +169,12 @@ fn words_that_are_read(rt: HostRuntime) -> Result<(), Fail> {
         for row in rows.split("\n\n") {
             let (line, what) = row.split_once('\n').ok_or("a row")?;
             let expected = format!(in alloc; "Ok({what})")?;
-            assert_eq!(rt; said(alloc, line)?.as_str(), expected.as_str(), "{line}");
+            same(
+                &rt,
+                &(said(alloc, line)?.as_str()),
+                &expected.as_str(),
+                &line,
+            );
         }
     }
     Ok(())

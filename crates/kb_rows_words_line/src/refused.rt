@@ -1,5 +1,6 @@
 //! Words that aren't in the grammar.
 
+use crate::compare::same;
 use crate::said::said;
 use kb_words::{WordsFault, read_words};
 use std::test::Fail;
@@ -156,7 +157,12 @@ init";
 fn words_that_are_refused(rt: HostRuntime) -> Result<(), Fail> {
     for rows in [MISSING, TWICE, VALUES, OTHERS] {
         for line in rows.lines() {
-            assert_eq!(rt; said(rt.alloc(), line)?.as_str(), "Err(Words)", "{line}");
+            same(
+                &rt,
+                &(said(rt.alloc(), line)?.as_str()),
+                &"Err(Words)",
+                &line,
+            );
         }
     }
     Ok(())
@@ -165,5 +171,5 @@ fn words_that_are_refused(rt: HostRuntime) -> Result<(), Fail> {
 #[test]
 fn no_word_at_all(rt: HostRuntime) {
     let read = read_words(rt.alloc(), &Vec::new(rt.alloc()));
-    assert_eq!(rt; read.err(), Some(WordsFault::Words));
+    same(&rt, &read.err(), &Some(WordsFault::Words), &"");
 }
