@@ -9,6 +9,8 @@ mod requests;
 #[cfg(test)]
 mod responses;
 #[cfg(test)]
+mod routers;
+#[cfg(test)]
 mod sockets;
 #[cfg(test)]
 mod streams;

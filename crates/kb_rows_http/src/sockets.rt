@@ -1,10 +1,11 @@
 //! Connections over TCP, from this process to itself.
 
 use kb_http::{Conn, HttpNext, Route};
-use kb_sockets::{Door, TcpDoor};
+use kb_sockets::{Door, Link, TcpDoor, TcpLink};
 use std::io::{Read, Write};
 use std::net::TcpStream;
 use std::test::Fail;
+use std::time::Instant;
 
 #[test]
 fn a_request_over_tcp(rt: HostRuntime) -> Result<(), Fail> {
@@ -26,5 +27,33 @@ fn a_request_over_tcp(rt: HostRuntime) -> Result<(), Fail> {
     drop(peer);
     let closed = matches!(conn.next(alloc), HttpNext::Closed);
     assert_eq!(rt; (janitor, buf, closed), (true, *b"done", true));
+    Ok(())
+}
+
+/// The patience of a link with a silent peer, in seconds.
+const PATIENCE: u64 = 30;
+
+#[test]
+fn a_silent_peer_is_left(rt: HostRuntime) -> Result<(), Fail> {
+    let mut door = TcpDoor::new(&rt);
+    door.listen(0)?;
+    let port = door.port().ok_or("a port")?;
+    let _silent = TcpLink::new(TcpStream::connect(&rt, ("127.0.0.1", port))?)?;
+    let mut left = door.accept()?;
+    let mut peer = TcpLink::new(TcpStream::connect(&rt, ("127.0.0.1", port))?)?;
+    let mut kept = door.accept()?;
+    let begun = Instant::now(&rt)?;
+    let mut buf = [0; 4];
+    let failed = left.read(&mut buf).is_err();
+    let waited = begun.elapsed(&rt)?.as_secs();
+    let in_time = (PATIENCE - 1..PATIENCE + 15).contains(&waited);
+    // The other connection isn't touched by that.
+    let written = kept.write(b"done")?;
+    let read = peer.read(&mut buf)?;
+    assert_eq!(rt;
+        (failed, in_time, written, read, buf),
+        (true, true, 4, 4, *b"done"),
+        "{waited} s"
+    );
     Ok(())
 }
