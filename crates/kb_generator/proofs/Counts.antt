@@ -51,6 +51,7 @@ length-with_keys number ((day, command) ∷ later) = omega (arith, length-with_k
 
 -- so a seed stands for 242 commands for each account at most
 pub few_commands : (seed accounts months : ℕ) (unsent : List Unsent)
-    → unsent ≡ of_accounts seed 1 accounts months → months ≤ 120 → length (with_keys 1 unsent) ≤ 242 * accounts
+    → unsent ≡ of_accounts seed 1 accounts months → months ≤ 120
+    → length (with_keys 1 unsent) ≤ 242 * accounts
 few_commands seed accounts months unsent is few =
     omega (arith, length-with_keys 1 unsent, ap length is, few_of_accounts seed 1 accounts months few)

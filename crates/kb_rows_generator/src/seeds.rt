@@ -56,8 +56,8 @@ static SEED_1: [Sent; 17] = [
     ("2024-09-01", b"\x0b\x02m1\x03k17\x01\x00\x00\x4d\xff"),
 ];
 
-/// The commands of the seed 624 for two accounts and two months. It draws 21343, 16436, 22912 and 1594 for one,
-/// and 26314, 11061, 4263 and 31213 for the other.
+/// The commands of the seed 624 for two accounts and two months. It draws 21343, 16436, 22912 and 1594 for
+/// one, and 26314, 11061, 4263 and 31213 for the other.
 static SEED_624: [Sent; 11] = [
     ("2024-01-01", b"\x03\x02m1\x02k1USD\x08\x01"),
     (
