@@ -3,7 +3,7 @@
 # then proves and builds the program, and answers again by what was proved, twice, to show that keys act once.
 #
 #   sh demo.sh            both
-#   sh demo.sh --quick    the first answers alone, in a minute or two
+#   sh demo.sh --quick    the first answers alone, in some minutes
 set -eu
 cd "$(dirname "$0")"
 export LC_ALL=C
