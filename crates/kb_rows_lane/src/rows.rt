@@ -247,7 +247,10 @@ fn hold_versions(rt: &impl Abort, alloc: Global) -> Result<(), Fail> {
 fn after_version(alloc: Global, lane: &mut TestLane, number: u32) -> Result<String, Fail> {
     let key = name(&format!(in alloc; "k{number}")?)?;
     let (before, behind) = SHOP.split_once("2020-01-01").unwrap_or(("", ""));
-    let text = format!(in alloc; "{before}{year}-01-01{behind}", year = 2000 + number)?;
+    let text = format!(in alloc;
+        "{before}{year}-01-01{behind}",
+        year = number.saturating_add(2000)
+    )?;
     match read(alloc, text.into_bytes()) {
         Ok(text) => performed(lane, alloc, &Command::Catalog(Catalog { key, text })),
         Err(_) => Err("a text".into()),
