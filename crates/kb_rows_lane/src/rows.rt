@@ -223,40 +223,6 @@ fn after_catalog(alloc: Global, lane: &mut TestLane, key: &str) -> Result<String
     }
 }
 
-#[test]
-fn no_65th_version(rt: HostRuntime) -> Result<(), Fail> {
-    hold_versions(&rt, rt.alloc())
-}
-
-/// Each version takes effect a year after the one before. The lane goes on once it has all of them.
-fn hold_versions(rt: &impl Abort, alloc: Global) -> Result<(), Fail> {
-    let mut lane = empty(alloc, &[])?;
-    for number in 1..66 {
-        let said = after_version(alloc, &mut lane, number)?;
-        let wanted = if number < 65 {
-            format!(in alloc; "version {number}")?
-        } else {
-            format!(in alloc; "refused 0")?
-        };
-        same(rt, &said.as_str(), &wanted.as_str(), &number);
-    }
-    hold_lines(rt, alloc, &mut lane, ACCOUNTS)
-}
-
-/// The reply to the shop's catalog text as of the first day of the year 2000 and so many more, under a key of its own.
-fn after_version(alloc: Global, lane: &mut TestLane, number: u32) -> Result<String, Fail> {
-    let key = name(&format!(in alloc; "k{number}")?)?;
-    let (before, behind) = SHOP.split_once("2020-01-01").unwrap_or(("", ""));
-    let text = format!(in alloc;
-        "{before}{year}-01-01{behind}",
-        year = number.saturating_add(2000)
-    )?;
-    match read(alloc, text.into_bytes()) {
-        Ok(text) => performed(lane, alloc, &Command::Catalog(Catalog { key, text })),
-        Err(_) => Err("a text".into()),
-    }
-}
-
 /// The reply to the shop's overdue text.
 fn after_overdue(alloc: Global, lane: &mut TestLane) -> Result<String, Fail> {
     let key = name("init")?;
