@@ -203,8 +203,8 @@ tells_change other = false
 a_refusal_tells_none : tells_change (says.Reply (replies.Refused refusals.NoAccount)) ≡ false
 a_refusal_tells_none = refl
 
--- The line that says it: its text. Where there is no memory for that and nothing was written down, it may be the text
--- of want of memory.
+-- The line that says it: its text. If there is no memory for that, and what is said tells of no change, it may be the
+-- text of want of memory. So it may if a text was taken by some lanes and then refused by the next.
 abbrev pub Says : Said → List ℕ → Type 0
 Says spoken text = (text ≡ say spoken ++ line_feed ∷ [])
     ⊎ ((tells_change spoken ≡ false) × (text ≡ say (says.Fault faults.NoMemory) ++ line_feed ∷ []))
