@@ -14,8 +14,9 @@ use Rattle.kb_codec.specs.Private.Parts.{command_in}
 use Rattle.kb_codec.proofs.Readers.{IsBytes, into_some, into_again, chained_again, Holds}
 use Rattle.kb_codec.proofs.MemberLaws.{IsExact, name_exact, currency_exact, bcd_exact, day_exact}
 use Rattle.kb_codec.proofs.MemberLaws.{invoice_exact, amount_exact, truth_exact, period_exact}
-use Rattle.kb_codec.proofs.MemberLaws.{scope_exact, status_exact, flags_exact, catalog_exact, overdue_exact}
+use Rattle.kb_codec.proofs.MemberLaws.{scope_exact, status_exact, flags_exact}
 use Rattle.kb_codec.proofs.MemberLaws.{optional_exact, both_exact}
+use Rattle.kb_codec.proofs.TextMemberLaws.{catalog_exact, overdue_exact}
 
 -- the commands of a kind are spelled by their members
 pub record IsKind {A : Type 0} (kind : ℕ) (m : Member A) (of : A → Command) : Type 0 where

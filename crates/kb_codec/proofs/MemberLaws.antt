@@ -16,10 +16,6 @@ use Rattle.kb_money.specs.Currency.{IsCurrency, is_currency, is_capital}
 use Rattle.kb_payment.specs.declared.attempt.Status.{Status}
 use Rattle.kb_payment.specs.declared.attempt.Status.TheVariants as statuses
 use Rattle.kb_blocking.specs.declared.state.Flags.{Flags}
-use Rattle.kb_catalog.specs.declared.version.Version.{Version}
-use Rattle.kb_overdue.specs.declared.state.OverdueState.{OverdueState}
-use Rattle.kb_catalog_text.specs.declared.fault.TextFault.{TextFault}
-use Rattle.kb_catalog_text.specs.Texts.{CatalogText, OverdueText, catalog_read, overdue_read}
 use Rattle.kb_codec.specs.declared.amount.TheConstants.{MAX_AMOUNT}
 use Rattle.kb_codec.specs.declared.scope.BlockScope.{BlockScope}
 use Rattle.kb_codec.specs.declared.scope.BlockScope.TheVariants as scopes
@@ -27,23 +23,21 @@ use Rattle.kb_codec.specs.Members.{four_bytes, eight_bytes, name_bytes, currency
 use Rattle.kb_codec.specs.Members.{day_bytes, invoice_bytes, amount_bytes}
 use Rattle.kb_codec.specs.Members.{optional_bytes, truth_bytes, truth_byte, period_bytes, period_byte}
 use Rattle.kb_codec.specs.Members.{scope_bytes, scope_byte, status_bytes, status_byte}
-use Rattle.kb_codec.specs.Members.{flags_bytes, flags_byte, text_bytes}
-use Rattle.kb_codec.specs.Commands.{IsDay, IsBcd, IsAmount, IsInvoiceNo, IsCatalogText, IsOverdueText}
+use Rattle.kb_codec.specs.Members.{flags_bytes, flags_byte}
+use Rattle.kb_codec.specs.Commands.{IsDay, IsBcd, IsAmount, IsInvoiceNo}
 use Rattle.kb_codec.specs.Private.Reading.{byte_in, bytes_in, into, made, passed, within}
 use Rattle.kb_codec.specs.Private.Reading.{four_in, eight_in, name_in}
 use Rattle.kb_codec.specs.Private.Reading.{currency_in, bcd_in, day_in, invoice_in, amount_in, truth_in}
 use Rattle.kb_codec.specs.Private.Reading.{truths, optional_in, period_in, all_periods}
 use Rattle.kb_codec.specs.Private.Reading.{scope_in, all_scopes, status_in, all_statuses, flags_in}
-use Rattle.kb_codec.specs.Private.Reading.{flags_of, text_in, catalog_in, catalog_of, with_version}
-use Rattle.kb_codec.specs.Private.Reading.{overdue_in, overdue_of, with_states}
+use Rattle.kb_codec.specs.Private.Reading.{flags_of}
 use Rattle.kb_codec.specs.Private.Parts.{Member, both, optional, name, currency, bcd, day, invoice, amount}
-use Rattle.kb_codec.specs.Private.Parts.{truth, period, scope, status, flags, catalog, overdue}
+use Rattle.kb_codec.specs.Private.Parts.{truth, period, scope, status, flags}
 use Rattle.kb_codec.proofs.Readers.{IsBytes, IsBytes-take, IsBytes-drop, IsBytes-rest}
 use Rattle.kb_codec.proofs.Readers.{some_is, made_some, into_some, chained_some}
 use Rattle.kb_codec.proofs.Readers.{made_again, into_again, chained_again, byte_some, bytes_some}
 use Rattle.kb_codec.proofs.Readers.{bytes_again, passed_some, passed_again, within_some, within_again}
 use Rattle.kb_codec.proofs.Readers.{Holds, at_place, guard_passed, both_true}
-use Rattle.kb_codec.proofs.ShortTexts.{catalog_short, overdue_short}
 
 -- what a member that was read was spelled as
 pub record WasRead {A : Type 0} (m : Member A) (bytes : List ℕ) (value : A) (rest : List ℕ) : Type 0 where
@@ -60,19 +54,19 @@ pub record IsExact {A : Type 0} (m : Member A) : Type 0 where
 
 -- ---- numbers
 
-four_again : (n : ℕ) (rest : List ℕ) → n < 2 ^ 32 → four_in (four_bytes n ++ rest) ≡ Some (n, rest)
+pub four_again : (n : ℕ) (rest : List ℕ) → n < 2 ^ 32 → four_in (four_bytes n ++ rest) ≡ Some (n, rest)
 unfolding four_in four_bytes
 four_again n rest lt =
     into_again (from_be_bytes w32) (bytes_in 4) (to_be_bytes w32 n ++ rest) (to_be_bytes w32 n) rest
     (bytes_again 4 (to_be_bytes w32 n) rest refl)
     ∙ ap (λ (k : ℕ). Some (k, rest)) (from_be_bytes-to_be_bytes_4 n lt)
 
-record IsNumber (front : List ℕ) (limit : ℕ) (bytes : List ℕ) (n : ℕ) (rest : List ℕ) : Type 0 where
+pub record IsNumber (front : List ℕ) (limit : ℕ) (bytes : List ℕ) (n : ℕ) (rest : List ℕ) : Type 0 where
   pub spelled : bytes ≡ front ++ rest
   pub below : n < limit
   pub bytes_left : IsBytes rest
 
-four_some : (bytes : List ℕ) (n : ℕ) (rest : List ℕ) → IsBytes bytes → four_in bytes ≡ Some (n, rest)
+pub four_some : (bytes : List ℕ) (n : ℕ) (rest : List ℕ) → IsBytes bytes → four_in bytes ≡ Some (n, rest)
     → IsNumber (four_bytes n) (2 ^ 32) bytes n rest
 unfolding four_in four_bytes
 four_some bytes n rest fits e =
@@ -385,95 +379,6 @@ flags_sound bytes value rest fits e =
 
 pub flags_exact : IsExact flags
 flags_exact = record { again = flags_again; sound = flags_sound }
-
--- ---- texts
-
-text_again : (text rest : List ℕ) → length text < 2 ^ 32
-    → text_in (text_bytes text ++ rest) ≡ Some (text, rest)
-unfolding text_in text_bytes
-text_again text rest lt =
-    rw (append_assoc (four_bytes (length text)) text rest)
-    (chained_again four_in bytes_in (four_bytes (length text) ++ (text ++ rest)) (length text)
-    (text ++ rest) text rest (four_again (length text) (text ++ rest) lt)
-    (bytes_again (length text) text rest refl))
-
-text_some : (bytes text rest : List ℕ) → IsBytes bytes → text_in bytes ≡ Some (text, rest)
-    → (bytes ≡ text_bytes text ++ rest) × IsBytes rest
-unfolding text_in text_bytes
-text_some bytes text rest fits e =
-    let a = chained_some four_in bytes_in bytes text rest e in
-    let n = four_some bytes a.0 a.1 fits a.2 in
-    let b = bytes_some a.0 a.1 text rest a.3 in (
-      rw (append_assoc (four_bytes (length text)) text rest, b.1, ← b.0) n.spelled,
-      rw b.3
-          (IsBytes-drop a.0 a.1 n.bytes_left),
-    )
-
-with_version_some : (text : List ℕ) (read : Result Version TextFault) (value : CatalogText)
-    → catalog_read text ≡ read → with_version text read ≡ Some value
-    → (text ≡ value.text) × IsCatalogText value
-with_version_some text (Ok version) value h e =
-    let same : record { text = text; version = version } ≡ value = some_is _ value e in
-    subst (λ (v : CatalogText). (text ≡ v.text) × IsCatalogText v) same (refl, h)
-with_version_some text (Err fault) value h e = absurd cc
-
-of_catalog : (text : List ℕ) (value : CatalogText) → catalog_of text ≡ Some value
-    → (text ≡ value.text) × IsCatalogText value
-of_catalog text value e = with_version_some text (catalog_read text) value refl e
-
-catalog_back : (value : CatalogText) → IsCatalogText value → catalog_of value.text ≡ Some value
-catalog_back value h = rw h refl
-
-catalog_again : (value : CatalogText) (rest : List ℕ) → IsCatalogText value
-    → catalog_in (text_bytes value.text ++ rest) ≡ Some (value, rest)
-unfolding catalog_in
-catalog_again value rest h = made_again catalog_of text_in (text_bytes value.text ++ rest) value.text value
-    rest (text_again value.text rest (catalog_short value.text value.version h)) (catalog_back value h)
-
-catalog_sound : (bytes : List ℕ) (value : CatalogText) (rest : List ℕ) → IsBytes bytes
-    → catalog_in bytes ≡ Some (value, rest) → WasRead catalog bytes value rest
-unfolding catalog_in
-catalog_sound bytes value rest fits e =
-    let a = made_some catalog_of text_in bytes value rest e in
-    let t = text_some bytes a.0 rest fits a.1 in
-    let v = of_catalog a.0 value a.2 in
-    record { spelled = rw (← v.0) t.0; allowed = v.1; bytes_left = t.1 }
-
-pub catalog_exact : IsExact catalog
-catalog_exact = record { again = catalog_again; sound = catalog_sound }
-
-with_states_some : (text : List ℕ) (read : Result (List OverdueState) TextFault) (value : OverdueText)
-    → overdue_read text ≡ read → with_states text read ≡ Some value
-    → (text ≡ value.text) × IsOverdueText value
-with_states_some text (Ok states) value h e =
-    let same : record { text = text; states = states } ≡ value = some_is _ value e in
-    subst (λ (v : OverdueText). (text ≡ v.text) × IsOverdueText v) same (refl, h)
-with_states_some text (Err fault) value h e = absurd cc
-
-of_overdue : (text : List ℕ) (value : OverdueText) → overdue_of text ≡ Some value
-    → (text ≡ value.text) × IsOverdueText value
-of_overdue text value e = with_states_some text (overdue_read text) value refl e
-
-overdue_back : (value : OverdueText) → IsOverdueText value → overdue_of value.text ≡ Some value
-overdue_back value h = rw h refl
-
-overdue_again : (value : OverdueText) (rest : List ℕ) → IsOverdueText value
-    → overdue_in (text_bytes value.text ++ rest) ≡ Some (value, rest)
-unfolding overdue_in
-overdue_again value rest h = made_again overdue_of text_in (text_bytes value.text ++ rest) value.text value
-    rest (text_again value.text rest (overdue_short value.text value.states h)) (overdue_back value h)
-
-overdue_sound : (bytes : List ℕ) (value : OverdueText) (rest : List ℕ) → IsBytes bytes
-    → overdue_in bytes ≡ Some (value, rest) → WasRead overdue bytes value rest
-unfolding overdue_in
-overdue_sound bytes value rest fits e =
-    let a = made_some overdue_of text_in bytes value rest e in
-    let t = text_some bytes a.0 rest fits a.1 in
-    let v = of_overdue a.0 value a.2 in
-    record { spelled = rw (← v.0) t.0; allowed = v.1; bytes_left = t.1 }
-
-pub overdue_exact : IsExact overdue
-overdue_exact = record { again = overdue_again; sound = overdue_sound }
 
 -- ---- members of members
 
