@@ -65,13 +65,6 @@ impl<D: Disk, G: Gateway + Drop, C: Clock + Drop> Lanes<D, G, C> {
         self.lanes
     }
 
-    /// Whether a lane had no room for a command.
-    pub fn is_full(&self) -> bool
-        ensures { result ≡ self.now.full }
-    {
-        self.full
-    }
-
     /// How many lanes there are.
     pub(crate) fn count(&self) -> usize
         ensures count { result ≡ length self.now.lanes }
