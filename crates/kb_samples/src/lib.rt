@@ -9,12 +9,11 @@ mod account;
 mod club;
 mod fault;
 mod read;
-mod shop;
 mod step;
 
 pub use account::Account;
 pub use club::{CLUB, DEARER_CLUB};
 pub use fault::SampleFault;
+pub use kb_shop::{OVERDUE, SHOP};
 pub use read::{bcd, catalog, currency, day, name, reach};
-pub use shop::{OVERDUE, SHOP};
 pub use step::{Anchor, Step};
