@@ -16,3 +16,4 @@ mod words;
 
 pub use answer::{MEMORY_TEXT, answer_text};
 pub use said::Said;
+pub use words::state_word;

@@ -45,7 +45,7 @@ pub(crate) fn status_word(status: Status) -> &'static str
 }
 
 /// The word of how a subscription stands.
-pub(crate) fn state_word(state: Entitlement) -> &'static str
+pub fn state_word(state: Entitlement) -> &'static str
     ensures { result.now ≡ state_word state }
 {
     match state {
