@@ -4,6 +4,8 @@ ghost use Rattle.kb_journal.specs.Keeping.{Holds};
 ghost use Rattle.kb_journal.specs.Format.{StandsFor};
 ghost use Rattle.kb_journal.specs.Unwritten.{IsUnwritten};
 ghost use Rattle.kb_log.specs.Entries.{payloads};
+ghost use Rattle.kb_machine.specs.Machines.{no_machine};
+ghost use Rattle.kb_machine.specs.Histories.{AreNewFrom};
 ghost use Rattle.kb_lane.specs.Loads.{RefusesLane};
 
 use crate::Lane;
@@ -17,9 +19,9 @@ use std::alloc::Global;
 use std::collections::VecDeque;
 
 impl<D: Disk, G: Gateway + Drop> Lane<D, G> {
-    /// The lane of this number on a disk: its history is the list of commands that the bytes stand for, and
-    /// its outbox is empty. The disk is synced first, and nothing is written. A fault gives the disk and the
-    /// gateway back.
+    /// The lane of this number on a disk: its history is the list of commands that the bytes stand for, each new
+    /// to those before it, and its outbox is empty. The disk is synced first, and nothing is written. A fault
+    /// gives the disk and the gateway back.
     pub fn load(
         alloc: Global,
         disk: D,
@@ -29,6 +31,7 @@ impl<D: Disk, G: Gateway + Drop> Lane<D, G> {
         ensures history { IsTrue (D.honest disk)
             → IfOk result (λ loaded. StandsFor loaded.log.journal.lanes lane
             (payloads loaded.log.history) (D.seen disk)) }
+        ensures fresh { IfOk result (λ loaded. AreNewFrom no_machine loaded.log.history) }
         ensures opened { IfOk result (λ loaded. loaded.log.opened ≡ length loaded.log.history) }
         ensures running { IfOk result (λ loaded. loaded.log.journal.stopped ≡ false) }
         ensures place { IfOk result (λ loaded. loaded.log.journal.lane ≡ lane) }
@@ -70,7 +73,8 @@ impl<D: Disk, G: Gateway + Drop> Lane<D, G> {
         requires count { count ≡ length past }
         requires held { IsTrue (D.honest journal.disk)
             → Holds D.honest D.seen D.images journal (payloads past) }
-        ensures { result ≡ record {
+        ensures fresh { AreNewFrom no_machine past }
+        ensures made { result ≡ record {
           log = record {
             journal = journal;
             history = past;
