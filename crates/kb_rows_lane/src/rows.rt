@@ -235,3 +235,41 @@ fn after_overdue(alloc: Global, lane: &mut TestLane) -> Result<String, Fail> {
         Err(_) => Err("a text".into()),
     }
 }
+
+#[test]
+fn no_65th_version(rt: HostRuntime) -> Result<(), Fail> {
+    let mut lane = empty(rt.alloc(), &[])?;
+    hold_versions(&rt, rt.alloc(), &mut lane)
+}
+
+/// A lane takes 64 versions of a catalog, a year apart. One more is refused, and accounts go on.
+fn hold_versions(rt: &impl Abort, alloc: Global, lane: &mut TestLane) -> Result<(), Fail> {
+    for number in 1..66 {
+        let said = after_version(alloc, lane, number)?;
+        let wanted = match number {
+            65 => "refused 0".to_string(alloc)?,
+            _ => format!(in alloc; "version {number}")?,
+        };
+        same(rt, &said, &wanted, &number);
+    }
+    hold_lines(rt, alloc, lane, ACCOUNTS)
+}
+
+/// The reply to the shop's catalog text, from the first day of a year on, under a key of its own.
+fn after_version(alloc: Global, lane: &mut TestLane, number: u32) -> Result<String, Fail> {
+    let year = number.saturating_add(2000);
+    let key = format!(in alloc; "k{number}")?;
+    let (before, behind) = SHOP.split_once("2020-01-01").ok_or("no day")?;
+    let text = format!(in alloc; "{before}{year}-01-01{behind}")?;
+    match read(alloc, text.into_bytes()) {
+        Ok(text) => performed(
+            lane,
+            alloc,
+            &Command::Catalog(Catalog {
+                key: name(&key)?,
+                text,
+            }),
+        ),
+        Err(_) => Err("a text".into()),
+    }
+}
