@@ -1,5 +1,5 @@
 -- A disk that is given back has the bytes that it had.
-use Rattle.std.proofs.Common.{◌≡◌, ℕ, Bool, IsTrue, List, Option, Some, None, IfSome, sym, subst, ◌∙◌}
+use Rattle.std.proofs.Common.{◌≡◌, ℕ, Bool, IsTrue, List, Option, Some, None, IfSome, refl, sym, subst, ◌∙◌}
 use Rattle.kb_disk.specs.Images.{IsAmong}
 use Rattle.kb_vault.specs.Vaults.{Opens}
 use Rattle.kb_opening.specs.Folders.{VaultTold, DiskWords}
@@ -25,6 +25,11 @@ pub tells_no_other : (told now : Option (List ℕ)) (seen : List ℕ) → IfSome
 tells_no_other None now seen was is = tt
 tells_no_other (Some before) None seen was is = tt
 tells_no_other (Some before) (Some after) seen was is = is ∙ was
+
+-- nor are those that are told as before
+pub same_tells : (told now : Option (List ℕ)) → now ≡ told → TellsNoOther told now
+same_tells None now is = tt
+same_tells (Some before) now is = subst (TellsNoOther (Some before)) (sym is) refl
 
 pub given_back : {D : Type 0} (words : DiskWords D) (folder : List ℕ) (number : ℕ) (old new : VaultTold) (disk : D)
     (told : Option (List ℕ)) → TakesBack words folder number old new disk

@@ -6,4 +6,5 @@ mod LeftIn
 mod Opened
 mod Places
 mod Returned
+pub mod Unchanged
 mod Unloaded

@@ -5,17 +5,19 @@ use Rattle.kb_base.specs.Faults.{Rose}
 use Rattle.kb_vault.specs.Places.{is_place, SameLanes}
 use Rattle.kb_journal.specs.Format.{StandsFor}
 use Rattle.kb_journal.specs.Reading.{number_at}
-use Rattle.kb_log.specs.Entries.{payloads}
+use Rattle.kb_log.specs.Entries.{History, payloads}
+use Rattle.kb_machine.specs.Machines.{no_machine}
+use Rattle.kb_machine.specs.Histories.{AreNewFrom}
 use Rattle.kb_lane.specs.Lanes.{LaneValue}
 use Rattle.kb_lane.specs.Loads.{IsNoLane}
 use Rattle.kb_opening.specs.declared.fault.Unopened.{Unopened}
 use Rattle.kb_opening.specs.declared.fault.Unopened.TheVariants as faults
 use Rattle.kb_opening.specs.Folders.{VaultTold, DiskWords, is_among, with_lanes}
-use Rattle.kb_opening.specs.Openings.{IsOpened, AreOpened, TellsNoOther, TellsOtherLanes, IsCause}
+use Rattle.kb_opening.specs.Openings.{IsOpened, AreOpened, TellsNoOther, TellsOtherLanes, IsCause, IsLaneBeside, IsFirstOfThem}
 use Rattle.kb_opening.specs.Private.AllLanes.{AddsLane, HasStopped}
 use Rattle.kb_opening.specs.Private.OneLane.{TakesOut, IsLeftIn, IsLaneCause}
 use Rattle.kb_opening.proofs.Amongs.{not_among, not_among_fewer, not_place, told_at, told_before, told_elsewhere, told_more}
-use Rattle.kb_opening.proofs.GivenBack.{reads_them}
+use Rattle.kb_opening.proofs.GivenBack.{reads_them, same_tells}
 use Rattle.kb_opening.proofs.LeftIn.{tells_lanes}
 use Rattle.kb_opening.proofs.Places.{at_snoc, length_snoc, some_at}
 
@@ -73,10 +75,6 @@ module _ {D G : Type 0} (words : DiskWords D) (folder : List ℕ) (count : ℕ) 
       → length more ≡ length lanes + 1
   one_longer more adds = ap (λ (l : List (LaneValue D G)). length l) adds.1 ∙ length_snoc lanes adds.0
 
-  same_tells : (one other : Option (List ℕ)) → other ≡ one → TellsNoOther one other
-  same_tells None other is = tt
-  same_tells (Some bytes) other is = subst (TellsNoOther (Some bytes)) (sym is) refl
-
   -- what is told of a lane that isn't open is no other than at first
   tells : IsLeftIn folder (length lanes) mid new → (this_folder : List ℕ) (this : ℕ)
       → is_among folder (length lanes) this_folder this ≡ false
@@ -128,6 +126,31 @@ module _ {D G : Type 0} (words : DiskWords D) (folder : List ℕ) (count : ℕ) 
           → IfSome told (λ first. number_at 8 first ≡ count)
       by_told lane None stands = tt
       by_told lane (Some bytes) stands = tells_lanes count 0 (payloads lane.log.history) bytes few stands
+
+  -- each lane that is open is one, of as many as lane 0 tells
+  stand_before : count ≤ 64 → (place : ℕ) → place < length lanes
+      → IfSome (old.lane_bytes folder place) (IsLaneBeside (old.lane_bytes folder 0) place)
+  stand_before few place inside =
+      let lane = some_at lanes place inside in
+      let opened = so_far.each place lane.0 lane.1 in
+      by_told lane.0.log.history (old.lane_bytes folder place) (first_tells few (omega (arith, inside))) opened.stands opened.fresh
+    where
+      by_told : (history : History) (told : Option (List ℕ))
+          → IfSome (old.lane_bytes folder 0) (λ first. number_at 8 first ≡ count)
+          → IfSome told (StandsFor count place (payloads history)) → AreNewFrom no_machine history
+          → IfSome told (IsLaneBeside (old.lane_bytes folder 0) place)
+      by_told history None first stands fresh = tt
+      by_told history (Some bytes) first stands fresh = (count, (history, stands, fresh), first)
+
+  -- so the one that is told is the first that can't be opened
+  pub first_of_next : (market_mid market_new : ℕ) (fault : Unopened) → count ≤ 64
+      → IsLaneCause count (length lanes) (mid.lane_bytes folder (length lanes)) mid.faults new.faults market_mid market_new fault
+      → IsFirstOfThem folder old fault
+  first_of_next market_mid market_new faults.Disk few cause = tt
+  first_of_next market_mid market_new faults.NoMemory few cause = tt
+  first_of_next market_mid market_new (faults.Journal lane at) few cause =
+      λ place before. stand_before few place (subst (λ (n : ℕ). place < n) cause.0 before)
+  first_of_next market_mid market_new faults.Market few cause = tt
 
   told_lanes : (first told : Option (List ℕ)) (number at : ℕ) → IfSome first (λ bytes. number_at 8 bytes ≡ count)
       → IfSome told (λ bytes. IsNoLane number bytes at ⊎ ((at ≡ 8) × (number_at 8 bytes ≢ count)))

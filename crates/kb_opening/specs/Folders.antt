@@ -1,7 +1,8 @@
 -- What is told of a vault's folders and of the disks of their lanes.
 use Rattle.std.specs.Prelude.{ℕ, ◌≡◌, ◌&&◌, Bool, true, false, if◌then◌else◌, List, codes, bytes_eq, nat_lt, Option, refl}
 
--- What is told of a vault: which lanes are out, the bytes of lanes and of texts, and how many calls have failed.
+-- What is told of a vault: which lanes are out, the bytes of lanes and of texts, and how many calls have
+-- failed.
 pub record VaultTold : Type 0 where
   pub is_out : List ℕ → ℕ → Bool
   pub lane_bytes : List ℕ → ℕ → Option (List ℕ)
@@ -17,8 +18,8 @@ told_of is_out lane_bytes file_bytes faults vault = record {
   faults = faults vault;
 }
 
--- What is told of disks: whether reads give what was written, what they give, what a crash may leave, and how many
--- calls have failed.
+-- What is told of disks: whether reads give what was written, what they give, what a crash may leave, and
+-- how many calls have failed.
 pub record DiskWords (D : Type 0) : Type 1 where
   pub honest : D → Bool
   pub seen : D → List ℕ

@@ -7,8 +7,10 @@ use Rattle.kb_vault.specs.Vaults.{Opens}
 use Rattle.kb_journal.specs.Format.{StandsFor}
 use Rattle.kb_journal.specs.Reading.{number_at}
 use Rattle.kb_gateway.specs.declared.order.Asked.{Asked}
-use Rattle.kb_log.specs.Entries.{payloads}
+use Rattle.kb_log.specs.Entries.{History, payloads}
 use Rattle.kb_log.specs.Logs.{StandsForLog}
+use Rattle.kb_machine.specs.Machines.{no_machine}
+use Rattle.kb_machine.specs.Histories.{AreNewFrom}
 use Rattle.kb_lane.specs.Asking.{WasAskedOnce}
 use Rattle.kb_lane.specs.Lanes.{LaneValue, opened_of}
 use Rattle.kb_lane.specs.Loads.{IsNoLane}
@@ -16,8 +18,9 @@ use Rattle.kb_opening.specs.declared.fault.Unopened.{Unopened}
 use Rattle.kb_opening.specs.declared.fault.Unopened.TheVariants.{Disk, NoMemory, Journal, Market}
 use Rattle.kb_opening.specs.Folders.{VaultTold, DiskWords, is_among, with_lanes}
 
--- A lane was opened as the one of this number among so many: it has done and asked nothing yet, and no call of its
--- disk has failed. If its bytes were told, its disk is open over them, and its history is what they stand for.
+-- A lane was opened as the one of this number among so many: it has done and asked nothing yet, and no call
+-- of its disk has failed. If its bytes were told, its disk is open over them, and its history is what they
+-- stand for. Each of its commands is new to those before it.
 pub record IsOpened {D G : Type 0} (words : DiskWords D) (count number : ℕ) (told : Option (List ℕ))
     (lane : LaneValue D G) : Type 0 where
   pub place : lane.log.journal.lane ≡ number
@@ -30,9 +33,10 @@ pub record IsOpened {D G : Type 0} (words : DiskWords D) (count number : ℕ) (t
   pub faults : lane.log.faults ≡ 0
   pub bytes : IfSome told (Opens words.honest words.seen words.images lane.log.journal.disk)
   pub stands : IfSome told (StandsFor count number (payloads lane.log.history))
+  pub fresh : AreNewFrom no_machine lane.log.history
 
--- The first lanes of a folder are open, of so many: the one at each place has its number, and is out. Nothing else
--- has changed in the vault, and no call failed.
+-- The first lanes of a folder are open, of so many: the one at each place has its number, and is out.
+-- Nothing else has changed in the vault, and no call failed.
 pub record AreOpened {D G : Type 0} (words : DiskWords D) (folder : List ℕ) (count : ℕ) (old new : VaultTold)
     (lanes : List (LaneValue D G)) : Type 0 where
   pub each : (place : ℕ) (lane : LaneValue D G) → slice_get lanes place ≡ Some lane
@@ -42,9 +46,10 @@ pub record AreOpened {D G : Type 0} (words : DiskWords D) (folder : List ℕ) (c
   pub files : SameFiles new.file_bytes old.file_bytes
   pub calm : new.faults ≡ old.faults
 
--- Lanes of a folder were given back, the one at each place as that of its number: none of them is out any more, and
--- each has the bytes that its disk reads, which stand for its log if the disk is honest. A disk that has failed, as
--- that of a lane that has stopped, raises the vault's count; if none has, the count stays.
+-- Lanes of a folder were given back, the one at each place as that of its number: none of them is out any
+-- more, and each has the bytes that its disk reads, which stand for its log if the disk is honest. A disk
+-- that has failed, as that of a lane that has stopped, raises the vault's count; if none has, the count
+-- stays.
 pub record AreBack {D G : Type 0} (words : DiskWords D) (folder : List ℕ) (old new : VaultTold)
     (lanes : List (LaneValue D G)) : Type 0 where
   pub inside : SameLanes new.is_out (with_lanes old.is_out folder (length lanes) false)
@@ -64,8 +69,8 @@ pub record AreBack {D G : Type 0} (words : DiskWords D) (folder : List ℕ) (old
       → words.fault_count lane.log.journal.disk ≡ 0) → new.faults ≡ old.faults
   pub rising : old.faults ≤ new.faults
 
--- The gateway of each lane, if it tells what it was asked, was asked for no payment twice, provided that before the
--- lane was opened it was asked once each, for attempts that the lane had then.
+-- The gateway of each lane, if it tells what it was asked, was asked for no payment twice, provided that
+-- before the lane was opened it was asked once each, for attempts that the lane had then.
 abbrev pub AskedOnceEach : {D G : Type 0} → (G → Option (List Asked)) → List (LaneValue D G) → Type 0
 AskedOnceEach asked lanes = (place : ℕ) (lane : LaneValue _ _) → slice_get lanes place ≡ Some lane
     → WasAskedOnce (opened_of lane) (asked lane.gateway) lane.own
@@ -90,8 +95,8 @@ pub record IsAsBefore (folder : List ℕ) (old new : VaultTold) : Type 0 where
 abbrev pub TellsOtherLanes : Option (List ℕ) → List ℕ → Type 0
 TellsOtherLanes first bytes = IfSome first (λ first. number_at 8 bytes ≢ number_at 8 first)
 
--- Why no lanes are opened: the vault or a disk of it failed; or memory ran out; or the bytes of this lane are no
--- lane, which shows at this place, or are one of another number of lanes; or the market failed.
+-- Why no lanes are opened: the vault or a disk of it failed; or memory ran out; or the bytes of this lane
+-- are no lane, which shows at this place, or are one of another number of lanes; or the market failed.
 abbrev pub IsCause : List ℕ → VaultTold → VaultTold → ℕ → ℕ → Unopened → Type 0
 IsCause folder old new market_old market_new Disk = Rose old.faults new.faults × (market_new ≡ market_old)
 IsCause folder old new market_old market_new NoMemory = (new.faults ≡ old.faults) × (market_new ≡ market_old)
@@ -100,3 +105,21 @@ IsCause folder old new market_old market_new (Journal lane at) =
     IsNoLane lane bytes at ⊎ ((at ≡ 8) × TellsOtherLanes (old.lane_bytes folder 0) bytes))
     × (new.faults ≡ old.faults) × (market_new ≡ market_old)
 IsCause folder old new market_old market_new Market = (new.faults ≡ old.faults) × Rose market_old market_new
+
+-- the bytes are those of the lane of a number, of so many: they stand for commands, each new to those
+-- before it
+abbrev pub IsLaneOf : ℕ → ℕ → List ℕ → Type 0
+IsLaneOf count number bytes = (history : History) × StandsFor count number (payloads history) bytes
+    × AreNewFrom no_machine history
+
+-- and so many are told by lane 0
+abbrev pub IsLaneBeside : Option (List ℕ) → ℕ → List ℕ → Type 0
+IsLaneBeside first number bytes = (count : ℕ) × IsLaneOf count number bytes
+    × IfSome first (λ first. number_at 8 first ≡ count)
+
+-- The lane that is told is the first one that can't be opened: each one before it is a lane, of as many as
+-- lane 0 tells.
+abbrev pub IsFirstOfThem : List ℕ → VaultTold → Unopened → Type 0
+IsFirstOfThem folder old (Journal lane at) = (place : ℕ) → place < lane
+    → IfSome (old.lane_bytes folder place) (IsLaneBeside (old.lane_bytes folder 0) place)
+IsFirstOfThem folder old other = ⊤

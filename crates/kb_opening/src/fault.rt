@@ -14,8 +14,8 @@ pub enum Unopened {
     Disk,
     #[error("out of memory")]
     NoMemory,
-    /// The bytes of this lane are no lane of this number, or tell another number of lanes than those of lane 0. It
-    /// shows at the place `at`.
+    /// The bytes of this lane are no lane of this number, or tell another number of lanes than those of
+    /// lane 0. It shows at the place `at`.
     #[error("lane {lane}: no journal at {at}")]
     Journal { lane: u32, at: u64 },
     /// The market gives no gateway.

@@ -2,7 +2,7 @@
 ghost use Rattle.std.specs.Prelude.{◌≡◌, ◌≤◌, ◌≢◌, ℕ, [], ◌∷◌, ◌++◌, IfOk, IfErr, OnOk, OnErr, true, false, length};
 ghost use Rattle.kb_opening.specs.declared.fault.Unopened.TheVariants as faults;
 ghost use Rattle.kb_opening.specs.Folders.{told_of, words_of};
-ghost use Rattle.kb_opening.specs.Openings.{AreOpened, IsAsBefore, IsCause};
+ghost use Rattle.kb_opening.specs.Openings.{AreOpened, IsAsBefore, IsCause, IsFirstOfThem};
 ghost use Rattle.kb_opening.specs.Private.AllLanes.{AddsLane, HasStopped};
 ghost use Rattle.kb_opening.specs.Private.OneLane.{IsRefused, TakesBack, TakesOut};
 
@@ -14,8 +14,8 @@ use kb_lane::Lane;
 use kb_vault::Vault;
 use std::alloc::Global;
 
-/// Opens all lanes of a folder, of whose number the header of lane 0 tells, in order: each with a gateway of this
-/// name. Their disks are only synced and read. A fault leaves no lane out.
+/// Opens all lanes of a folder, of whose number the header of lane 0 tells, in order: each with a gateway
+/// of this name. Their disks are only synced and read. A fault leaves no lane out.
 pub fn open_lanes<V: Vault, M: Market>(
     alloc: Global,
     vault: &mut V,
@@ -40,6 +40,8 @@ pub fn open_lanes<V: Vault, M: Market>(
         (told_of V.is_out V.lane_bytes V.file_bytes V.faults vault.old)
         (told_of V.is_out V.lane_bytes V.file_bytes V.faults vault.new)
         (M.faults market.old) (M.faults market.new)) }
+    ensures in_order { IfErr result (IsFirstOfThem folder.now
+        (told_of V.is_out V.lane_bytes V.file_bytes V.faults vault.old)) }
 {
     let mut lanes = Vec::new(alloc);
     match open_all(alloc, vault, market, folder, gateway, &mut lanes) {
@@ -80,6 +82,8 @@ fn open_all<V: Vault, M: Market>(
         (told_of V.is_out V.lane_bytes V.file_bytes V.faults vault.old)
         (told_of V.is_out V.lane_bytes V.file_bytes V.faults vault.new)
         (M.faults market.old) (M.faults market.new)) }
+    ensures in_order { IfErr result (IsFirstOfThem folder.now
+        (told_of V.is_out V.lane_bytes V.file_bytes V.faults vault.old)) }
 {
     let count = match open_first(alloc, vault, market, folder, gateway, lanes) {
         Ok(count) => count,

@@ -61,8 +61,8 @@ IsLaneCause count number told old new market_old market_new (Journal lane at) =
     × (new ≡ old) × (market_new ≡ market_old)
 IsLaneCause count number told old new market_old market_new Market = (new ≡ old) × Rose market_old market_new
 
--- Why the lane of this number, of so many and with these bytes, isn't loaded from a disk, and what that leaves: its
--- bytes are as they were, and no call of it failed, unless that is the cause.
+-- Why the lane of this number, of so many and with these bytes, isn't loaded from a disk, and what that
+-- leaves: its bytes are as they were, and no call of it failed, unless that is the cause.
 abbrev pub IsUnloadedBy : ℕ → ℕ → Option (List ℕ) → Unopened → ℕ → Type 0
 IsUnloadedBy count number told Disk failed = 0 < failed
 IsUnloadedBy count number told NoMemory failed = failed ≡ 0

@@ -2,7 +2,7 @@ use Rattle.std.proofs.Common.{◌≡◌, ◌+◌, ℕ, [], length, arith, refl, 
 use Rattle.kb_opening.specs.Folders.{told_of, words_of}
 use Rattle.kb_opening.specs.Openings.{AreOpened}
 use Rattle.kb_opening.specs.Private.OneLane.{IsLeftIn, IsLaneCause}
-use Rattle.kb_opening.proofs.Opened.{none_open, one_more_open, one_longer, stopped_next, cause_of_next, first_tells, lanes_in, lanes_told}
+use Rattle.kb_opening.proofs.Opened.{none_open, one_more_open, one_longer, stopped_next, cause_of_next, first_of_next, first_tells, lanes_in, lanes_told}
 use Rattle.kb_opening.proofs.opening.open_all.Goals as goal
 
 pub returns-in-Err-clause-stopped : goal.returns-in-Err-clause-stopped
@@ -31,6 +31,19 @@ returns-in-Err-clause-cause g c =
     (g.M.Market.faults c.args.market.now) (g.M.Market.faults c.args.market.now)
     (g.M.Market.faults c.open_first.new.market) c.in-Err.fault refl (lanes_told told)
     (c.in-Err.ensures.refused (lanes_in told)).1
+
+pub returns-in-Err-clause-in_order : goal.returns-in-Err-clause-in_order
+returns-in-Err-clause-in_order g c =
+    first_of_next {G = g.row.M-Gateway.Denot} (words_of g.V.Disk.Disk.honest g.V.Disk.Disk.seen g.V.Disk.Disk.images g.V.Disk.Disk.fault_count)
+    c.args.folder.now 0
+    (told_of g.V.Vault.is_out g.V.Vault.lane_bytes g.V.Vault.file_bytes g.V.Vault.faults c.args.vault.now)
+    (told_of g.V.Vault.is_out g.V.Vault.lane_bytes g.V.Vault.file_bytes g.V.Vault.faults c.args.vault.now)
+    (told_of g.V.Vault.is_out g.V.Vault.lane_bytes g.V.Vault.file_bytes g.V.Vault.faults c.open_first.new.vault) []
+    (none_open {G = g.row.M-Gateway.Denot} (words_of g.V.Disk.Disk.honest g.V.Disk.Disk.seen g.V.Disk.Disk.images g.V.Disk.Disk.fault_count)
+    c.args.folder.now 0
+    (told_of g.V.Vault.is_out g.V.Vault.lane_bytes g.V.Vault.file_bytes g.V.Vault.faults c.args.vault.now) [] refl)
+    (g.M.Market.faults c.args.market.now) (g.M.Market.faults c.open_first.new.market) c.in-Err.fault (omega arith)
+    (c.in-Err.ensures.refused 0).1
 
 pub returns-in-Err-open_next-clause-stopped : goal.returns-in-Err-open_next-clause-stopped
 returns-in-Err-open_next-clause-stopped g c =
@@ -68,6 +81,23 @@ returns-in-Err-open_next-clause-cause g c =
     (told_of g.V.Vault.is_out g.V.Vault.lane_bytes g.V.Vault.file_bytes g.V.Vault.faults c.loop-number.vault)
     (told_of g.V.Vault.is_out g.V.Vault.lane_bytes g.V.Vault.file_bytes g.V.Vault.faults c.open_next.new.vault) c.loop-number.lanes.items
     c.loop-number.invariant.0 c.in-Ok.ensures.few (omega (arith, counted, some)))
+    (subst
+    (λ (n : ℕ). IsLaneCause c.in-Ok.count n (g.V.Vault.lane_bytes c.loop-number.vault c.args.folder.now n)
+    (g.V.Vault.faults c.loop-number.vault) (g.V.Vault.faults c.open_next.new.vault)
+    (g.M.Market.faults c.loop-number.market) (g.M.Market.faults c.open_next.new.market) c.in-Err-open_next.fault)
+    (sym counted) c.in-Err-open_next.ensures.refused.1)
+
+pub returns-in-Err-open_next-clause-in_order : goal.returns-in-Err-open_next-clause-in_order
+returns-in-Err-open_next-clause-in_order g c =
+    let counted = c.loop-number.invariant.1 in
+    first_of_next (words_of g.V.Disk.Disk.honest g.V.Disk.Disk.seen g.V.Disk.Disk.images g.V.Disk.Disk.fault_count)
+    c.args.folder.now c.in-Ok.count
+    (told_of g.V.Vault.is_out g.V.Vault.lane_bytes g.V.Vault.file_bytes g.V.Vault.faults c.args.vault.now)
+    (told_of g.V.Vault.is_out g.V.Vault.lane_bytes g.V.Vault.file_bytes g.V.Vault.faults c.loop-number.vault)
+    (told_of g.V.Vault.is_out g.V.Vault.lane_bytes g.V.Vault.file_bytes g.V.Vault.faults c.open_next.new.vault) c.loop-number.lanes.items
+    c.loop-number.invariant.0
+    (g.M.Market.faults c.loop-number.market) (g.M.Market.faults c.open_next.new.market) c.in-Err-open_next.fault
+    c.in-Ok.ensures.few
     (subst
     (λ (n : ℕ). IsLaneCause c.in-Ok.count n (g.V.Vault.lane_bytes c.loop-number.vault c.args.folder.now n)
     (g.V.Vault.faults c.loop-number.vault) (g.V.Vault.faults c.open_next.new.vault)
