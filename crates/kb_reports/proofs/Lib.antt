@@ -1,0 +1,4 @@
+mod ListedAccounts
+mod PrintedAccounts
+mod FoundBooks
+mod AddedSums

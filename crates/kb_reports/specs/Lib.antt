@@ -1,0 +1,4 @@
+pub mod ReportLines
+pub mod Listings
+pub mod Totals
+pub mod Private

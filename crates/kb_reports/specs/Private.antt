@@ -1,0 +1,5 @@
+-- What only private contracts and proofs cite.
+pub mod Fields
+pub mod Adding
+pub mod Collecting
+pub mod Parts
