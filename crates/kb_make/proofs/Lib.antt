@@ -1,0 +1,8 @@
+mod Busy
+mod Determined
+mod Drained
+mod Made
+mod Paid
+mod Performed
+mod Sent
+mod ShopTexts

@@ -1,0 +1,4 @@
+pub mod Sayings
+pub mod ShopTexts
+pub mod Sending
+pub mod Lines
