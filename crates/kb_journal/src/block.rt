@@ -1,5 +1,5 @@
 //! A record as it is written behind a gate.
-ghost use Rattle.std.specs.Prelude.{◌≡◌, ◌+◌, ◌++◌, ◌∷◌, [], length, take};
+ghost use Rattle.std.specs.Prelude.{◌≡◌, ◌≤◌, ◌+◌, ◌++◌, ◌∷◌, [], length, take};
 ghost use Rattle.kb_journal.specs.Format.{header, framed, IsSized};
 
 /// The most bytes of a record.
@@ -9,8 +9,9 @@ pub const MAX_RECORD: usize = 65_536;
 pub const MAX_BLOCK: usize = MAX_RECORD + 5;
 
 /// Puts the length of a record, the record and a closed gate at the front of a block.
-pub fn fill_block(block: &mut [u8; MAX_BLOCK], bytes: &[u8])
+pub fn fill_block(block: &mut [u8], bytes: &[u8])
     requires sized { IsSized bytes.now }
+    requires fits { length bytes.now + 5 ≤ length block.old }
     ensures { take (length bytes.now + 5) block.new ≡ framed bytes.now ++ 0 ∷ [] }
 {
     let end = bytes.len() + 4;

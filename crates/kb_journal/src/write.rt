@@ -3,7 +3,7 @@ ghost use Rattle.std.specs.Prelude.{◌≡◌, ◌≤◌, ◌+◌, ◌<◌, ◌^
 ghost use Rattle.kb_base.specs.Faults.{HasCause};
 ghost use Rattle.kb_disk.specs.Images.{overwritten, Torn, Only};
 ghost use Rattle.kb_disk.specs.Moments.{AtEachMoment};
-ghost use Rattle.kb_journal.specs.Format.{IsSized, IsWithOrWithout};
+ghost use Rattle.kb_journal.specs.Format.{framed, IsSized, IsWithOrWithout};
 ghost use Rattle.kb_journal.specs.Keeping.{Keeps};
 
 use crate::{MAX_BLOCK, fill_block};
@@ -49,11 +49,54 @@ pub fn write_record<D: Disk>(disk: &mut D, gate: u64, bytes: &[u8]) -> Result<()
     ensures calm { OnOk result (D.fault_count disk.new ≡ D.fault_count disk.old) }
     ensures rising { D.fault_count disk.old ≤ D.fault_count disk.new }
 {
-    let mut block = [0; MAX_BLOCK];
-    fill_block(&mut block, bytes);
-    if let Err(failed) = write_through(disk, gate + 1, &block[..bytes.len() + 5]) {
+    if let Err(failed) = write_block(disk, gate + 1, bytes) {
         return Err(failed);
     }
     // The gate is opened last: until then a crash leaves the records as they were.
     write_through(disk, gate, &[1])
+}
+
+/// The most bytes of a record that is short: nearly every one is.
+const SHORT_RECORD: usize = 507;
+
+/// Writes the block of a record at a place and syncs. A short one is made in a small room, since a room is
+/// filled with zeros first.
+fn write_block<D: Disk>(disk: &mut D, at: u64, bytes: &[u8]) -> Result<(), Failed>
+    requires sized { IsSized bytes.now }
+    requires in_range { IsTrue (D.honest disk.old) → at ≤ length (D.seen disk.old) }
+    ensures written { IsTrue (D.honest disk.old)
+        → OnOk result (D.seen disk.new ≡ overwritten (D.seen disk.old) at (framed bytes.now ++ 0 ∷ [])) }
+    ensures durable { IsTrue (D.honest disk.old) → OnOk result (Only (D.seen disk.new) (D.images disk.new)) }
+    ensures moments { Only (D.seen disk.old) (D.images disk.old)
+        → AtEachMoment D.moment D.left_since disk.old disk.new
+        (Torn at (length bytes.now + 5) (D.seen disk.old)) }
+    ensures honesty { D.honest disk.new ≡ D.honest disk.old }
+    ensures cause { HasCause (D.fault_count disk.old) (D.fault_count disk.new) result }
+    ensures calm { OnOk result (D.fault_count disk.new ≡ D.fault_count disk.old) }
+    ensures rising { D.fault_count disk.old ≤ D.fault_count disk.new }
+{
+    if bytes.len() <= SHORT_RECORD {
+        return write_in(disk, at, &mut [0; SHORT_RECORD + 5], bytes);
+    }
+    write_in(disk, at, &mut [0; MAX_BLOCK], bytes)
+}
+
+/// Makes the block of a record in a room for it, writes it at a place and syncs.
+fn write_in<D: Disk>(disk: &mut D, at: u64, room: &mut [u8], bytes: &[u8]) -> Result<(), Failed>
+    requires sized { IsSized bytes.now }
+    requires fits { length bytes.now + 5 ≤ length room.old }
+    requires in_range { IsTrue (D.honest disk.old) → at ≤ length (D.seen disk.old) }
+    ensures written { IsTrue (D.honest disk.old)
+        → OnOk result (D.seen disk.new ≡ overwritten (D.seen disk.old) at (framed bytes.now ++ 0 ∷ [])) }
+    ensures durable { IsTrue (D.honest disk.old) → OnOk result (Only (D.seen disk.new) (D.images disk.new)) }
+    ensures moments { Only (D.seen disk.old) (D.images disk.old)
+        → AtEachMoment D.moment D.left_since disk.old disk.new
+        (Torn at (length bytes.now + 5) (D.seen disk.old)) }
+    ensures honesty { D.honest disk.new ≡ D.honest disk.old }
+    ensures cause { HasCause (D.fault_count disk.old) (D.fault_count disk.new) result }
+    ensures calm { OnOk result (D.fault_count disk.new ≡ D.fault_count disk.old) }
+    ensures rising { D.fault_count disk.old ≤ D.fault_count disk.new }
+{
+    fill_block(room, bytes);
+    write_through(disk, at, &room[..bytes.len() + 5])
 }
