@@ -1,5 +1,5 @@
 -- What a run of the program leaves, whatever its words are.
-use Rattle.std.proofs.Common.{◌≡◌, ℕ, ◌⊎◌, inl, inr, arith, List, Option, None, Some, Result, Ok, Err, refl, sym, ◌∙◌}
+use Rattle.std.proofs.Common.{◌≡◌, ℕ, ◌⊎◌, inl, inr, arith, List, Option, None, Some, Result, Ok, Err, refl, sym, subst, ◌∙◌}
 use Rattle.kb_base.specs.Faults.{Rose}
 use Rattle.kb_vault.specs.Places.{SameLanes}
 use Rattle.kb_lines.specs.Reading.{Known}
@@ -14,13 +14,39 @@ use Rattle.kb_opening.specs.Folders.{VaultTold, DiskWords}
 use Rattle.kb_opening.specs.Openings.{IsCause}
 use Rattle.kb_endings.specs.declared.stop.Stop.{Stop}
 use Rattle.kb_endings.specs.declared.stop.Stop.TheVariants as stops
+use Rattle.kb_reports.specs.declared.printing.Unprinted.{Unprinted}
+use Rattle.kb_reports.specs.declared.printing.Unprinted.TheVariants as unprinted
+use Rattle.kb_reports.specs.Listings.{Said}
+use Rattle.kb_billd.specs.Reports.{ReportsFolder, outcome_of_printing, said_by}
 use Rattle.kb_billd.specs.Runs.{AppliesFolder, outcome_of, stop_of_unopened}
+use Rattle.kb_billd.specs.Summaries.{MakesBy}
 use Rattle.kb_billd.specs.TopCall.{AppliesBy, Around, Begins, Does, gateway_of}
 use Rattle.kb_billd.proofs.Founded.{founding_disk, founding_no_market}
 
 -- the program is stopped so
 abbrev stopped : Stop → Result (Unit {0}) Stop
 stopped stop = Err stop
+
+-- lanes that aren't opened since a disk failed, or since the market did
+unopened_disk : (folder : List ℕ) (old new : VaultTold) (market market_after : ℕ) (fault : Unopened)
+    → stopped (stop_of_unopened fault) ≡ stopped stops.Disk → IsCause folder old new market market_after fault
+    → Rose old.faults new.faults
+unopened_disk folder old new market market_after unopened.Disk same cause = cause.0
+unopened_disk folder old new market market_after unopened.NoMemory same cause = absurd (cc)
+unopened_disk folder old new market market_after (unopened.Journal lane at) same cause = absurd (cc)
+unopened_disk folder old new market market_after unopened.Market same cause = absurd (cc)
+
+unopened_market : (folder : List ℕ) (old new : VaultTold) (market market_after : ℕ) (fault : Unopened)
+    → stopped (stop_of_unopened fault) ≡ stopped stops.Market → IsCause folder old new market market_after fault
+    → Rose market market_after
+unopened_market folder old new market market_after unopened.Disk same cause = absurd (cc)
+unopened_market folder old new market market_after unopened.NoMemory same cause = absurd (cc)
+unopened_market folder old new market market_after (unopened.Journal lane at) same cause = absurd (cc)
+unopened_market folder old new market market_after unopened.Market same cause = cause.1
+
+-- no market fails where none is asked
+nobody : Rose 0 0 → ⊥
+nobody rose = absurd (omega (arith, rose (omega arith)))
 
 module _ {D G C : Type 0} (disks : DiskWords D) (outside : Outside D G C) (folder : List ℕ) (clock : C)
     (old new : VaultTold) (market market_after : ℕ) (left left_after written written_after : Known)
@@ -32,14 +58,8 @@ module _ {D G C : Type 0} (disks : DiskWords D) (outside : Outside D G C) (folde
 
   applied_disk : AppliesFolder disks outside folder clock old new market market_after left left_after written
       written_after outcome → outcome ≡ Err stops.Disk → Rose old.faults new.faults
-  applied_disk (inl (fault, told, leaves)) is = by_fault fault (sym told ∙ is) leaves.cause
-    where
-      by_fault : (fault : Unopened) → stopped (stop_of_unopened fault) ≡ stopped stops.Disk
-          → IsCause folder old new market market_after fault → Rose old.faults new.faults
-      by_fault unopened.Disk same cause = cause.0
-      by_fault unopened.NoMemory same cause = absurd (cc)
-      by_fault (unopened.Journal lane at) same cause = absurd (cc)
-      by_fault unopened.Market same cause = absurd (cc)
+  applied_disk (inl (fault, told, leaves)) is =
+      unopened_disk folder old new market market_after fault (sym told ∙ is) leaves.cause
   applied_disk (inr (run, told, same, runs)) is = runs.counted (by_run run (sym told ∙ is))
     where
       by_run : (run : Result (Unit {0}) ApplyStop) → outcome_of run ≡ Err stops.Disk → run ≡ Err applied.Disk
@@ -50,14 +70,8 @@ module _ {D G C : Type 0} (disks : DiskWords D) (outside : Outside D G C) (folde
 
   applied_market : AppliesFolder disks outside folder clock old new market market_after left left_after written
       written_after outcome → outcome ≡ Err stops.Market → Rose market market_after
-  applied_market (inl (fault, told, leaves)) is = by_fault fault (sym told ∙ is) leaves.cause
-    where
-      by_fault : (fault : Unopened) → stopped (stop_of_unopened fault) ≡ stopped stops.Market
-          → IsCause folder old new market market_after fault → Rose market market_after
-      by_fault unopened.Disk same cause = absurd (cc)
-      by_fault unopened.NoMemory same cause = absurd (cc)
-      by_fault (unopened.Journal lane at) same cause = absurd (cc)
-      by_fault unopened.Market same cause = cause.1
+  applied_market (inl (fault, told, leaves)) is =
+      unopened_market folder old new market market_after fault (sym told ∙ is) leaves.cause
   applied_market (inr (run, told, same, runs)) is = by_run run (sym told ∙ is)
     where
       by_run : (run : Result (Unit {0}) ApplyStop) → outcome_of run ≡ Err stops.Market → Rose market market_after
@@ -65,6 +79,34 @@ module _ {D G C : Type 0} (disks : DiskWords D) (outside : Outside D G C) (folde
       by_run (Err applied.Disk) same = absurd (cc)
       by_run (Err applied.Full) same = absurd (cc)
       by_run (Err (applied.Run stop)) same = absurd (cc)
+
+module _ {D : Type 0} (disks : DiskWords D) (folder : List ℕ) (said : Said) (old new : VaultTold)
+    (written written_after : Known) (outcome : Result (Unit {0}) Stop) where
+  reported_inside : ReportsFolder disks folder said old new written written_after outcome → SameLanes new.is_out old.is_out
+  reported_inside (inl (fault, told, nothing)) = nothing.same.out
+  reported_inside (inr (printed, told, reports)) = reports.same.out
+
+  reported_disk : ReportsFolder disks folder said old new written written_after outcome → outcome ≡ Err stops.Disk
+      → Rose old.faults new.faults
+  reported_disk (inl (fault, told, nothing)) is = unopened_disk folder old new 0 0 fault (sym told ∙ is) nothing.cause
+  reported_disk (inr (printed, told, reports)) is = by_print printed (sym told ∙ is)
+    where
+      by_print : (printed : Result (Unit {0}) Unprinted) → outcome_of_printing printed ≡ Err stops.Disk
+          → Rose old.faults new.faults
+      by_print (Ok done) same = absurd (cc)
+      by_print (Err unprinted.Output) same = absurd (cc)
+      by_print (Err unprinted.NoMemory) same = absurd (cc)
+
+  reported_no_market : ReportsFolder disks folder said old new written written_after outcome → outcome ≡ Err stops.Market
+      → ⊥
+  reported_no_market (inl (fault, told, nothing)) is =
+      nobody (unopened_market folder old new 0 0 fault (sym told ∙ is) nothing.cause)
+  reported_no_market (inr (printed, told, reports)) is = by_print printed (sym told ∙ is)
+    where
+      by_print : (printed : Result (Unit {0}) Unprinted) → outcome_of_printing printed ≡ Err stops.Market → ⊥
+      by_print (Ok done) same = absurd (cc)
+      by_print (Err unprinted.Output) same = absurd (cc)
+      by_print (Err unprinted.NoMemory) same = absurd (cc)
 
 module _ {D G N C : Type 0} (disks : DiskWords D) (outside : Outside D G C) (alone : Outside D N C) (clock : C)
     (old new : Around) (outcome : Result (Unit {0}) Stop) where
@@ -84,8 +126,10 @@ module _ {D G N C : Type 0} (disks : DiskWords D) (outside : Outside D G C) (alo
   does-inside (Some (words.Apply apply)) does = by-inside apply.dir (gateway_of apply.gateway) does
   does-inside (Some (words.Bill bill)) does = does.1.inside
   does-inside (Some (words.Serve serve)) does = does.1.inside
-  does-inside (Some (words.Report report)) does = does.1.inside
-  does-inside (Some (words.Make make)) does = does.1.inside
+  does-inside (Some (words.Report report)) does =
+      reported_inside disks report.dir (said_by report.kind report.day) old.vault new.vault old.written
+      new.written outcome does.reported
+  does-inside (Some (words.Make make)) does = does.untouched.inside
 
   pub begins_inside : (given : Option Words) → Begins disks outside alone clock old new outcome given
       → SameLanes new.vault.is_out old.vault.is_out
@@ -112,8 +156,10 @@ module _ {D G N C : Type 0} (disks : DiskWords D) (outside : Outside D G C) (alo
   does-disk (Some (words.Apply apply)) does is = by-disk apply.dir (gateway_of apply.gateway) does is
   does-disk (Some (words.Bill bill)) does is = let same = other stops.Disk does.0 is in absurd (cc)
   does-disk (Some (words.Serve serve)) does is = let same = other stops.Disk does.0 is in absurd (cc)
-  does-disk (Some (words.Report report)) does is = let same = other stops.Disk does.0 is in absurd (cc)
-  does-disk (Some (words.Make make)) does is = let same = other stops.Disk does.0 is in absurd (cc)
+  does-disk (Some (words.Report report)) does is =
+      reported_disk disks report.dir (said_by report.kind report.day) old.vault new.vault old.written
+      new.written outcome does.reported is
+  does-disk (Some (words.Make make)) does is = absurd (subst (MakesBy make old.written new.written) is does.made)
 
   pub begins_disk : (given : Option Words) → Begins disks outside alone clock old new outcome given
       → outcome ≡ Err stops.Disk → Rose old.vault.faults new.vault.faults
@@ -127,9 +173,6 @@ module _ {D G N C : Type 0} (disks : DiskWords D) (outside : Outside D G C) (alo
       new.market old.left new.left old.written new.written outcome applies is
   by-market folder None applies is = absurd (nobody (applied_market disks alone folder clock old.vault new.vault 0 0
       old.left new.left old.written new.written outcome applies.1 is))
-    where
-      nobody : Rose 0 0 → ⊥
-      nobody rose = absurd (omega (arith, rose (omega arith)))
 
   -- a market that failed is counted
   does-market : (given : Option Words) → Does disks outside alone clock old new outcome given
@@ -140,8 +183,10 @@ module _ {D G N C : Type 0} (disks : DiskWords D) (outside : Outside D G C) (alo
   does-market (Some (words.Apply apply)) does is = by-market apply.dir (gateway_of apply.gateway) does is
   does-market (Some (words.Bill bill)) does is = let same = other stops.Market does.0 is in absurd (cc)
   does-market (Some (words.Serve serve)) does is = let same = other stops.Market does.0 is in absurd (cc)
-  does-market (Some (words.Report report)) does is = let same = other stops.Market does.0 is in absurd (cc)
-  does-market (Some (words.Make make)) does is = let same = other stops.Market does.0 is in absurd (cc)
+  does-market (Some (words.Report report)) does is =
+      absurd (reported_no_market disks report.dir (said_by report.kind report.day) old.vault new.vault old.written
+      new.written outcome does.reported is)
+  does-market (Some (words.Make make)) does is = absurd (subst (MakesBy make old.written new.written) is does.made)
 
   pub begins_market : (given : Option Words) → Begins disks outside alone clock old new outcome given
       → outcome ≡ Err stops.Market → Rose old.market new.market

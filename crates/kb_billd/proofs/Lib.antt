@@ -1,4 +1,5 @@
 mod Applied
 mod Causes
 mod Founded
+mod Reported
 mod Untouched

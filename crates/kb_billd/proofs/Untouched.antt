@@ -4,10 +4,14 @@ use Rattle.std.specs.Io.KnownBytes.{Keeps}
 use Rattle.kb_base.specs.Faults.{Rose}
 use Rattle.kb_lines.specs.Reading.{Known}
 use Rattle.kb_words.specs.declared.words.Init.{Init}
-use Rattle.kb_opening.specs.Folders.{VaultTold}
+use Rattle.kb_words.specs.declared.words.Make.{Make}
+use Rattle.kb_words.specs.declared.words.Report.{Report}
+use Rattle.kb_opening.specs.Folders.{VaultTold, DiskWords}
 use Rattle.kb_endings.specs.declared.stop.Stop.{Stop}
 use Rattle.kb_billd.specs.Foundings.{FoundsFolder}
-use Rattle.kb_billd.specs.TopCall.{Around, around_of, Founds, IsToday, IsUntouched}
+use Rattle.kb_billd.specs.Reports.{ReportsFolder, said_by}
+use Rattle.kb_billd.specs.Summaries.{MakesBy}
+use Rattle.kb_billd.specs.TopCall.{Around, around_of, Founds, IsToday, IsUntouched, Makes, Reports}
 
 -- known bytes that nobody moved are kept
 keeps : (known : Option (List ℕ)) → Keeps known known
@@ -37,6 +41,26 @@ founds told init left written old new market outcome today day founded = record 
   unread = keeps left;
   unwritten = keeps written;
   market = refl;
+}
+
+-- a report is printed, and nothing is read for that
+pub reports : {D : Type 0} (disks : DiskWords D) (report : Report) (left written written_after : Known)
+    (old new : VaultTold) (market : ℕ) (outcome : Result (Unit {0}) Stop)
+    → ReportsFolder disks report.dir (said_by report.kind report.day) old new written written_after outcome
+    → Reports disks report (around_of left written old market) (around_of left written_after new market) outcome
+reports disks report left written written_after old new market outcome reported = record {
+  reported = reported;
+  unread = keeps left;
+  market = refl;
+}
+
+-- accounts are made, and nothing but the output is touched for that
+pub makes : (make : Make) (left written written_after : Known) (vault : VaultTold) (market : ℕ)
+    (outcome : Result (Unit {0}) Stop) → MakesBy make written written_after outcome
+    → Makes make (around_of left written vault market) (around_of left written_after vault market) outcome
+makes make left written written_after vault market outcome made = record {
+  made = made;
+  untouched = untouched (around_of left written vault market);
 }
 
 -- a count that rose before or after another time has risen over both

@@ -22,8 +22,8 @@ abbrev pub outcome_of_founding : Result (Unit {0}) Unfounded → Result (Unit {0
 outcome_of_founding (Ok done) = Ok done
 outcome_of_founding (Err fault) = Err (stop_of_unfounded fault)
 
--- Lanes that were made: all, each with the two texts; or those before one that isn't empty, which stays as it was; or
--- none where a text is refused.
+-- Lanes that were made: all, each with the two texts; or those before one that isn't empty, which stays as
+-- it was; or none where a text is refused.
 abbrev pub Made : ℕ → Init → VaultTold → VaultTold → Result (Unit {0}) Unfounded → Type 0
 Made today init old new (Ok done) = FoundsWith today init.dir init.lanes init.lanes init.lanes
     (old.file_bytes init.catalog) (old.file_bytes init.overdue) old.lane_bytes new.lane_bytes
@@ -35,7 +35,8 @@ Made today init old new (Err (unfounded.Text fault)) = SameLanes new.lane_bytes 
 Made today init old new (Err unfounded.Disk) = ⊤
 Made today init old new (Err unfounded.NoMemory) = ⊤
 
--- What it leaves, by how it ends: a text that is refused is told; faults are counted; and all else in the vault stays.
+-- What it leaves, by how it ends: a text that is refused is told; faults are counted; and all else in the
+-- vault stays.
 pub record FoundsFolder (today : ℕ) (init : Init) (old new : VaultTold) (outcome : Result (Unit {0}) Stop) : Type 0 where
   pub ended : Result (Unit {0}) Unfounded
   pub told : outcome ≡ outcome_of_founding ended

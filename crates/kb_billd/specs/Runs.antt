@@ -20,23 +20,23 @@ use Rattle.kb_apply.specs.LaneRuns.{LanesValue, Outside, lanes_machine}
 use Rattle.kb_opening.specs.declared.fault.Unopened.{Unopened}
 use Rattle.kb_opening.specs.declared.fault.Unopened.TheVariants as unopened
 use Rattle.kb_opening.specs.Folders.{VaultTold, DiskWords, is_among}
-use Rattle.kb_opening.specs.Openings.{IsOpened, IsAsBefore, IsCause}
+use Rattle.kb_opening.specs.Openings.{IsOpened, IsAsBefore, IsCause, IsFirstOfThem}
 use Rattle.kb_endings.specs.declared.stop.Stop.{Stop}
 use Rattle.kb_endings.specs.declared.stop.Stop.TheVariants as stops
 
--- What holds of a lane after whatever commands came: each day of each account has exactly the charge that is due, or
--- none, and its invoices total what all days cost; credit is exactly by how much payments exceed charges; and its
--- gateway was asked for no payment twice, if what it had been asked before the lane was opened it was asked once each,
--- for attempts that the lane had then.
+-- What holds of a lane after whatever commands came: each day of each account has exactly the charge that
+-- is due, or none, and its invoices total what all days cost; credit is exactly by how much payments exceed
+-- charges; and its gateway was asked for no payment twice, if what it had been asked before the lane was
+-- opened it was asked once each, for attempts that the lane had then.
 pub record IsSoundLane {D G : Type 0} (asked : G → Option (List Asked)) (lane : LaneValue D G) : Type 0 where
   pub billed : AreBilledNow (machine_of lane)
   pub even : AreEvenNow (machine_of lane)
   pub once : WasAskedOnce (opened_of lane) (asked lane.gateway) lane.own
 
--- The lanes of a folder are opened, each with the history that its bytes stand for; the lines of the input are
--- answered by them; and their disks are given back, each with bytes that stand for its lane's last history, or, if an
--- append failed on it, for that or for it and the command whose append failed. A disk that failed is counted, and nothing
--- else changes in the vault.
+-- The lanes of a folder are opened, each with the history that its bytes stand for; the lines of the input
+-- are answered by them; and their disks are given back, each with bytes that stand for its lane's last
+-- history, or, if an append failed on it, for that or for it and the command whose append failed. A disk
+-- that failed is counted, and nothing else changes in the vault.
 pub record RunsLanes {D G C : Type 0} (words : DiskWords D) (outside : Outside D G C) (folder : List ℕ) (clock : C)
     (old new : VaultTold) (left left_after written written_after : Known) (outcome : Result (Unit {0}) ApplyStop)
     : Type 0 where
@@ -80,6 +80,7 @@ outcome_of (Err stop) = Err (stop_of_run stop)
 pub record LeavesFolder (folder : List ℕ) (old new : VaultTold) (market market_after : ℕ)
     (left left_after written written_after : Known) (fault : Unopened) : Type 0 where
   pub cause : IsCause folder old new market market_after fault
+  pub in_order : IsFirstOfThem folder old fault
   pub same : IsAsBefore folder old new
   pub unread : Keeps left left_after
   pub unwritten : Keeps written written_after

@@ -6,6 +6,8 @@ use Rattle.kb_days.specs.Calendar.{first_day, last_day}
 use Rattle.kb_lines.specs.Reading.{Known}
 use Rattle.kb_lines.specs.declared.stop.Stop.TheVariants as runs
 use Rattle.kb_words.specs.declared.words.Init.{Init}
+use Rattle.kb_words.specs.declared.words.Make.{Make}
+use Rattle.kb_words.specs.declared.words.Report.{Report}
 use Rattle.kb_words.specs.declared.words.Words.{Words}
 use Rattle.kb_words.specs.declared.words.Words.TheVariants as words
 use Rattle.kb_vault.specs.Places.{SameLanes, SameFiles}
@@ -16,7 +18,9 @@ use Rattle.kb_endings.specs.Endings.{Closes}
 use Rattle.kb_endings.specs.declared.stop.Stop.{Stop}
 use Rattle.kb_endings.specs.declared.stop.Stop.TheVariants as stops
 use Rattle.kb_billd.specs.Foundings.{FoundsFolder}
+use Rattle.kb_billd.specs.Reports.{ReportsFolder, said_by}
 use Rattle.kb_billd.specs.Runs.{AppliesFolder}
+use Rattle.kb_billd.specs.Summaries.{MakesBy}
 
 -- what is told of lanes without a gateway: it was asked nothing that is told, and never fails
 abbrev pub alone : {D C : Type 0} → (D → Bool) → (D → ℕ) → (D → ℕ → List ℕ → Type 0) → (D → ℕ) → (C → Option ℕ)
@@ -24,8 +28,8 @@ abbrev pub alone : {D C : Type 0} → (D → Bool) → (D → ℕ) → (D → �
 alone honest moment left_since fault_count day =
     outside_of honest moment left_since fault_count (λ gateway. None) (λ gateway. None) (λ gateway. 0) day
 
--- What is told around the program: what is left of its input, what is written of its output, its vault, and how often
--- its market has failed.
+-- What is told around the program: what is left of its input, what is written of its output, its vault, and
+-- how often its market has failed.
 pub record Around : Type 0 where
   pub left : Known
   pub written : Known
@@ -78,14 +82,29 @@ pub record Founds (told : Option ℕ) (init : Init) (old new : Around) (outcome 
   pub unwritten : Keeps old.written new.written
   pub market : new.market ≡ old.market
 
--- What the words ask for is done, up to the last output line. Words that aren't in the grammar, or whose command isn't
--- built yet, do nothing.
+-- `report`, which reads no input.
+pub record Reports {D : Type 0} (disks : DiskWords D) (report : Report) (old new : Around)
+    (outcome : Result (Unit {0}) Stop) : Type 0 where
+  pub reported : ReportsFolder disks report.dir (said_by report.kind report.day) old.vault new.vault old.written
+      new.written outcome
+  pub unread : Keeps old.left new.left
+  pub market : new.market ≡ old.market
+
+-- `make`, which touches nothing but the output.
+pub record Makes (make : Make) (old new : Around) (outcome : Result (Unit {0}) Stop) : Type 0 where
+  pub made : MakesBy make old.written new.written outcome
+  pub untouched : IsUntouched old (record new { written = old.written })
+
+-- What the words ask for is done, up to the last output line. Words that aren't in the grammar, or whose
+-- command isn't built yet, do nothing.
 abbrev pub Does : {D G N C : Type 0} → DiskWords D → Outside D G C → Outside D N C → C → Around → Around
     → Result (Unit {0}) Stop → Option Words → Type 0
 Does disks outside alone clock old new outcome (Some (words.Init init)) =
     Founds (outside.day clock) init old new outcome
 Does disks outside alone clock old new outcome (Some (words.Apply apply)) =
     AppliesBy disks outside alone apply.dir clock old new outcome (gateway_of apply.gateway)
+Does disks outside alone clock old new outcome (Some (words.Report report)) = Reports disks report old new outcome
+Does disks outside alone clock old new outcome (Some (words.Make make)) = Makes make old new outcome
 Does disks outside alone clock old new outcome other = (outcome ≡ Err stops.Words) × IsUntouched old new
 
 -- It is done, unless memory runs out before anything is.

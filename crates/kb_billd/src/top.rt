@@ -9,8 +9,9 @@ ghost use Rattle.kb_words.specs.Grammar.{words_of as words_read};
 ghost use Rattle.kb_endings.specs.declared.stop.Stop.TheVariants as stops;
 ghost use Rattle.kb_billd.specs.TopCall.{alone, around_of, gateway_of, AppliesBy, Begins, Does, Ends, IsToday};
 ghost use Rattle.kb_billd.specs.Foundings.{FoundsFolder};
+ghost use Rattle.kb_billd.specs.Reports.{ReportsFolder, said_by};
 
-use crate::command::{apply_folder, init_folder};
+use crate::command::{apply_folder, init_folder, make_accounts, report_folder};
 use kb_clock::Clock;
 use kb_endings::{Stop, close};
 use kb_gateway::Market;
@@ -18,11 +19,11 @@ use kb_lines::Stop as RunStop;
 use kb_opening::NoMarket;
 use kb_ports::{Sink, Source};
 use kb_vault::Vault;
-use kb_words::{Apply, Init, Text, Words, WordsFault, read_words};
+use kb_words::{Apply, Init, Report, Text, Words, WordsFault, read_words};
 use std::alloc::Global;
 
-/// Does what the words say, which are those behind the program's name, and gives the exit status. No lane may be
-/// out of the vault.
+/// Does what the words say, which are those behind the program's name, and gives the exit status. No lane
+/// may be out of the vault.
 pub fn billd<I: Source, O: Sink, V: Vault, M: Market, C: Clock + Drop>(
     alloc: Global,
     words: &Vec<String>,
@@ -111,7 +112,9 @@ fn act<I: Source, O: Sink, V: Vault, M: Market, C: Clock + Drop>(
     match words {
         Words::Init(init) => init_on(alloc, vault, init, &clock),
         Words::Apply(apply) => apply_by(alloc, apply, input, output, vault, market, clock),
-        Words::Bill(_) | Words::Serve(_) | Words::Report(_) | Words::Make(_) => Err(Stop::Words),
+        Words::Report(report) => report_by(alloc, report, output, vault),
+        Words::Make(make) => make_accounts(alloc, make, output),
+        Words::Bill(_) | Words::Serve(_) => Err(Stop::Words),
     }
 }
 
@@ -170,8 +173,35 @@ fn apply_by<I: Source, O: Sink, V: Vault, M: Market, C: Clock + Drop>(
     }
 }
 
+/// Prints a report of all accounts of a folder's lanes.
+fn report_by<O: Sink, V: Vault>(
+    alloc: Global,
+    report: &Report,
+    output: &mut O,
+    vault: &mut V,
+) -> Result<(), Stop>
+    requires inside { (lane : ℕ) → V.is_out vault.old report.now.dir lane ≡ false }
+    ensures reported { ReportsFolder (words_of V.Disk.honest V.Disk.seen V.Disk.images V.Disk.fault_count)
+        report.now.dir (said_by report.now.kind report.now.day)
+        (told_of V.is_out V.lane_bytes V.file_bytes V.faults vault.old)
+        (told_of V.is_out V.lane_bytes V.file_bytes V.faults vault.new)
+        (O.written output.old) (O.written output.new) result }
+    ensures read_no_input { result ≡ Err (stops.Run Input) → ⊥ }
+    ensures output { result ≡ Err (stops.Run Output) → Rose (O.faults output.old) (O.faults output.new) }
+    ensures output_rising { O.faults output.old ≤ O.faults output.new }
+{
+    report_folder(
+        alloc,
+        report.dir.as_str(),
+        report.kind,
+        report.day,
+        output,
+        vault,
+    )
+}
+
 /// The name of no gateway.
-const NO_GATEWAY: &str = "none";
+pub(crate) const NO_GATEWAY: &str = "none";
 
 /// The gateway that a market is asked for, if one is.
 fn gateway_of(named: &Option<Text>) -> Option<&str>

@@ -99,7 +99,7 @@ fn stop_of_run(stop: ApplyStop) -> Stop
 }
 
 /// What stops the program where lanes aren't opened.
-fn stop_of_unopened(fault: Unopened) -> Stop
+pub(crate) fn stop_of_unopened(fault: Unopened) -> Stop
     ensures { result ≡ stop_of_unopened fault }
 {
     match fault {
