@@ -11,7 +11,8 @@ use std::alloc::Global;
 use std::process::Abort;
 use std::test::Fail;
 
-/// Each command is written down by four calls of the disk: the record is written and synced, and then its gate.
+/// Each command is written down by four calls of the disk: the record is written and synced, and then its
+/// gate.
 const LINES: &str =
     r#"{"do":"open","account":"a1","key":"k1","currency":"USD","bcd":1,"today":"2024-03-01"}
 {"do":"create","account":"a1","key":"k2","bundle":"b1","subscription":"s1","product":"Basic","period":"MONTHLY","day":"2024-03-01","today":"2024-03-01"}
@@ -27,12 +28,12 @@ const ANSWERS: &str = r#"{"status":"ok","command":1,"invoice":null,"total":0,"cr
 {"status":"ok","command":1,"invoice":null,"total":0,"credit":0,"unpaid":0}
 "#;
 
-/// The first and the last of the disk's calls of which one fails, the answers of the run, and how the account stands
-/// on a disk of the same bytes that doesn't fail.
+/// The first and the last of the disk's calls of which one fails, the answers of the run, and how the
+/// account stands on a disk of the same bytes that doesn't fail.
 type Fault = (u64, u64, &'static str, &'static str);
 
-/// The lane is loaded by three calls. A command is there as soon as its gate is written, though the sync behind that
-/// fails and the answer is `disk`.
+/// The lane is loaded by three calls. A command is there as soon as its gate is written, though the sync
+/// behind that fails and the answer is `disk`.
 static FAULTS: [Fault; 7] = [
     (
         1,

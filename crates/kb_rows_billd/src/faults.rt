@@ -39,8 +39,8 @@ static REFUSES: Script = Script {
     failing: &[],
 };
 
-/// Which call of the source and which of the sink fails, the status, whether the answers are written, and the last
-/// output line.
+/// Which call of the source and which of the sink fails, the status, whether the answers are written, and
+/// the last output line.
 type Stream = (u64, u64, u8, bool, &'static str);
 
 static STREAMS: [Stream; 5] = [
@@ -64,8 +64,8 @@ fn hold_stream(rt: &impl Abort, alloc: Global, row: &Stream) -> Result<(), Fail>
     hold_stream_on(rt, alloc, &mut vault, row)
 }
 
-/// Lines that are sent again after a run that a stream ended get the answers of a whole run, and no payment is asked
-/// for again.
+/// Lines that are sent again after a run that a stream ended get the answers of a whole run, and no payment
+/// is asked for again.
 fn hold_stream_on(
     rt: &impl Abort,
     alloc: Global,
@@ -150,7 +150,8 @@ fn hold_market(
     Ok(())
 }
 
-/// The words of two runs over a shop of two lanes. The first makes four calls of the vault, and the second two.
+/// The words of two runs over a shop of two lanes. The first makes four calls of the vault, and the second
+/// two.
 const INIT: &str = "init --dir shop --lanes 2 --catalog c --overdue o";
 
 /// Which call of the vault fails, and the statuses of the two runs.

@@ -21,12 +21,13 @@ static PAID: Script = Script {
     failing: &[],
 };
 
-/// The calls of the gateway that fail in the row's run; and what is shown of the account behind its charges, after
-/// that run and after a look-up.
+/// The calls of the gateway that fail in the row's run; and what is shown of the account behind its
+/// charges, after that run and after a look-up.
 type Fault = (&'static [u64], &'static str, &'static str);
 
-/// The gateway's other answers come in their order all the same: an order that is asked later is told what the one
-/// that failed would have been. A payment whose outcome isn't known stays open, so no other one is made of its invoice.
+/// The gateway's other answers come in their order all the same: an order that is asked later is told what
+/// the one that failed would have been. A payment whose outcome isn't known stays open, so no other one is
+/// made of its invoice.
 static MONTH: [Fault; 8] = [
     (
         &[1],
@@ -130,7 +131,8 @@ fn hold_fault(
     hold_fault_on(rt, alloc, &mut vault, row, fault, charged)
 }
 
-/// The run with the fault ends as one without any. A run behind it looks the payment up, and asks for no order.
+/// The run with the fault ends as one without any. A run behind it looks the payment up, and asks for no
+/// order.
 fn hold_fault_on(
     rt: &impl Abort,
     alloc: Global,

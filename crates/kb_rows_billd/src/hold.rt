@@ -31,7 +31,8 @@ fn hold_row(rt: &impl Abort, alloc: Global, lanes: u32, row: &Row) -> Result<(),
     hold_on(rt, alloc, &mut vault, lanes, row)
 }
 
-/// Holds a row on a vault, in which its lanes are made. Another run over the same lanes shows the same account.
+/// Holds a row on a vault, in which its lanes are made. Another run over the same lanes shows the same
+/// account.
 fn hold_on(
     rt: &impl Abort,
     alloc: Global,

@@ -18,6 +18,8 @@ mod hold;
 #[cfg(test)]
 mod long_lines;
 #[cfg(test)]
+mod made;
+#[cfg(test)]
 mod months;
 #[cfg(test)]
 mod no_gateway;
@@ -29,6 +31,8 @@ mod payments;
 mod prorations;
 #[cfg(test)]
 mod refusals;
+#[cfg(test)]
+mod reports;
 #[cfg(test)]
 mod requests;
 #[cfg(test)]

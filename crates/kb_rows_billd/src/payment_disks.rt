@@ -11,8 +11,8 @@ use std::alloc::Global;
 use std::process::Abort;
 use std::test::Fail;
 
-/// The payment is written down by the calls 12 to 15 of the disk, then asked for, and what was told is written down
-/// by the calls 16 to 19.
+/// The payment is written down by the calls 12 to 15 of the disk, then asked for, and what was told is
+/// written down by the calls 16 to 19.
 const LINES: &str = r#"{"do":"open","account":"a1","key":"k1","currency":"USD","bcd":1}
 {"do":"create","account":"a1","key":"k2","bundle":"b1","subscription":"s1","product":"Basic","period":"MONTHLY"}
 {"do":"pay","account":"a1","key":"k3","payment":"p1","invoice":1}

@@ -54,8 +54,8 @@ pub(crate) fn vault_of_two(
     vault_of(alloc, vec![in alloc; first, second]?, "", &[])
 }
 
-/// A vault of these lanes and the shop's texts: the catalog `c`, the overdue text `o`, one without a state, `none`,
-/// and another one, `t`. The calls of these numbers fail.
+/// A vault of these lanes and the shop's texts: the catalog `c`, the overdue text `o`, one without a state,
+/// `none`, and another one, `t`. The calls of these numbers fail.
 fn vault_of(
     alloc: Global,
     lanes: Vec<LaneFile>,

@@ -11,8 +11,9 @@ use std::alloc::{AllocError, Global};
 use std::process::Abort;
 use std::test::Fail;
 
-/// The row whose lines are cut in two, the fewest and the most lines of the first part, and what the gateway of the
-/// second run does. What it says to an order that was asked in the first run would be seen in the answers.
+/// The row whose lines are cut in two, the fewest and the most lines of the first part, and what the
+/// gateway of the second run does. What it says to an order that was asked in the first run would be seen
+/// in the answers.
 type Split = (&'static str, usize, usize, Script);
 
 static SPLITS: [Split; 6] = [

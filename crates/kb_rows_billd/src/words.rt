@@ -9,7 +9,7 @@ use std::process::Abort;
 use std::test::Fail;
 
 /// Words on an empty vault, the status, and the last output line.
-static WORDS: [(&str, u8, &str); 18] = [
+static WORDS: [(&str, u8, &str); 22] = [
     ("''", 2, "billd: words\n"),
     ("sell", 2, "billd: words\n"),
     ("apply", 2, "billd: words\n"),
@@ -40,11 +40,31 @@ static WORDS: [(&str, u8, &str); 18] = [
         "billd: words\n",
     ),
     (
-        "report --dir shop --kind balances --day 2024-03-01",
+        "report --dir shop --kind sums --day 2024-03-01",
         2,
         "billd: words\n",
     ),
-    ("make --seed 1 --accounts 1 --months 1", 2, "billd: words\n"),
+    (
+        "report --dir shop --kind balances --day 2024-02-30",
+        2,
+        "billd: words\n",
+    ),
+    (
+        "report --kind balances --day 2024-03-01 --dir=shop",
+        6,
+        "billd: journal 0 0\n",
+    ),
+    (
+        "make --seed 01 --accounts 1 --months 1",
+        2,
+        "billd: words\n",
+    ),
+    (
+        "make --seed 2147483648 --accounts 1 --months 1",
+        2,
+        "billd: words\n",
+    ),
+    ("make --seed 1 --accounts 1", 2, "billd: words\n"),
     ("init --overdue=o --catalog=c --lanes=64 --dir=shop", 0, ""),
     ("apply --dir shop", 6, "billd: journal 0 0\n"),
     ("apply --gateway=g --dir=shop", 6, "billd: journal 0 0\n"),
