@@ -105,3 +105,10 @@ echo "4. The same lines again. Each key has acted: each command gets the answer 
 "$billd" $(apply_words "$work/second") <"$lines" >"$work/again"
 grep -c '"command":' "$work/again" | sed 's/$/ answers to commands/; s/^/    /'
 print_journals "$work/second"
+
+echo
+echo "5. How the accounts stand:"
+for kind in balances arrears states; do
+    echo "    $kind"
+    "$billd" report --dir "$work/second" --kind "$kind" --day 2024-03-31 | sed 's/^/      /'
+done
