@@ -83,7 +83,10 @@ fn main(rt: HostRuntime) -> io::Result<()> {
 /// A line of the most bytes: some before, some over and over, and some behind.
 fn filled(alloc: Global, before: &[u8], more: &[u8], behind: &[u8]) -> Result<Vec<u8>, NoMemory> {
     let mut bytes = before.to_vec(alloc)?;
-    while bytes.len() < LENGTH.saturating_sub(more.len()).saturating_sub(behind.len()) {
+    for _ in 0..LENGTH {
+        if bytes.len() >= LENGTH.saturating_sub(more.len()).saturating_sub(behind.len()) {
+            break;
+        }
         bytes.extend_from_slice(more)?;
     }
     bytes.extend_from_slice(behind)?;
