@@ -79,10 +79,11 @@ print_cost
 echo
 echo "2. The proof of the program and of each library below it, then the build. What is proved is kept in out/."
 mkdir "$work/second"
+words=$(init_words "$work/second")
 {
     status=0
-    # shellcheck disable=SC2046
-    (cd crates/billd && rt run -- $(init_words "$work/second")) 2>&1 || status=$?
+    # shellcheck disable=SC2086
+    (cd crates/billd && rt run -- $words) 2>&1 || status=$?
     echo "$status" >"$work/status"
 } | tee "$work/built" | grep --line-buffered -E '^(rt: |so far: [0-9])' | sed -u 's/^/    /' || true
 if [ "$(cat "$work/status")" -ne 0 ]; then
