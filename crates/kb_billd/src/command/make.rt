@@ -19,7 +19,12 @@ pub fn make_accounts<O: Sink>(alloc: Global, words: &Make, output: &mut O) -> Re
     ensures output { result ≡ Err (stops.Run Output) → Rose (O.faults output.old) (O.faults output.new) }
     ensures output_rising { O.faults output.old ≤ O.faults output.new }
 {
-    match make(alloc, words.seed.get(), words.accounts.get(), words.months.get()) {
+    match make(
+        alloc,
+        words.seed.get(),
+        words.accounts.get(),
+        words.months.get(),
+    ) {
         Ok(text) => match write_all(output, &text) {
             Ok(()) => Ok(()),
             Err(_) => Err(Stop::Run(RunStop::Output)),
