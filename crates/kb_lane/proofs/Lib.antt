@@ -9,7 +9,7 @@ mod LookingUp
 mod Pairs
 mod Places
 pub mod Rest
-mod SaidReplies
+pub mod SaidReplies
 mod Settling
 mod Stuck
 mod ToLookUp

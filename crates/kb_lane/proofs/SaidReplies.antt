@@ -13,7 +13,7 @@ use Rattle.kb_machine.specs.Plans.{change_reply}
 use Rattle.kb_lane.specs.Replies.{IsReply, is_accepted}
 
 -- a reply that isn't a refusal accepts
-abbrev Accepts : {A : Type 0} → Judged LaneReply A → Type 0
+abbrev pub Accepts : {A : Type 0} → Judged LaneReply A → Type 0
 Accepts (New reply after) = is_accepted reply ≡ true
 Accepts (Again reply) = is_accepted reply ≡ true
 Accepts (Refused refusal) = Unit {0}
@@ -25,13 +25,13 @@ lifted-accepts reply after accepts (Again told) = accepts told
 lifted-accepts reply after accepts (Refused refusal) = tt
 
 -- so does each of the machine's
-judged-accepts : (machine : MachineValue) (today : ℕ) (command : Command) → Accepts (judged machine today command)
+pub judged_accepts : (machine : MachineValue) (today : ℕ) (command : Command) → Accepts (judged machine today command)
 unfolding judged
-judged-accepts machine today (kinds.Catalog c) =
+judged_accepts machine today (kinds.Catalog c) =
     lifted-accepts replies.Version (with_texts machine) (λ told. refl) (catalog_judged machine.texts c)
-judged-accepts machine today (kinds.OverdueRules c) =
+judged_accepts machine today (kinds.OverdueRules c) =
     lifted-accepts replies.States (with_texts machine) (λ told. refl) (overdue_judged machine.texts c)
-judged-accepts machine today command =
+judged_accepts machine today command =
     lifted-accepts replies.Accepted (with_book machine (account_of command)) (λ told. refl)
     (by_book machine today command (book_of machine (account_of command)))
 
@@ -39,7 +39,7 @@ pub again_accepted : (machine : MachineValue) (today : ℕ) (command : Command) 
     → judged machine today command ≡ Again reply → is_accepted reply ≡ true
 again_accepted machine today command reply is =
     let P : Judged LaneReply MachineValue → Type 0 = λ told. Accepts told in
-    subst P is (judged-accepts machine today command)
+    subst P is (judged_accepts machine today command)
 
 pub change_accepted : (change : Change) → is_accepted (change_reply change) ≡ true
 change_accepted (changes.Catalog catalog keys number) = refl

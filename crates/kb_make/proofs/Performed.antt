@@ -1,43 +1,20 @@
 -- What the performing of a command leaves, by its reply.
 use Rattle.std.proofs.Common.{◌≡◌, ℕ, Bool, true, false, true≢false, ◌&&◌, List, [], ◌++◌, if◌then◌else◌, is_some, IfOk, OnOk, refl, sym, ap, ap₂, ◌∙◌}
 use Rattle.kb_codec.specs.declared.command.Command.{Command}
-use Rattle.kb_codec.specs.declared.command.Command.TheVariants as kinds
 use Rattle.kb_reply.specs.declared.reply.LaneReply.{LaneReply}
 use Rattle.kb_reply.specs.declared.reply.LaneReply.TheVariants as replies
-use Rattle.kb_machine.specs.Judged.{Judged, New, Again, Refused, after_judged, is_new, lifted, refusal_in}
-use Rattle.kb_machine.specs.Texts.{catalog_judged, overdue_judged}
-use Rattle.kb_machine.specs.Machines.{MachineValue, judged, reply_of, with_texts, with_book, by_book, book_of, account_of}
+use Rattle.kb_machine.specs.Judged.{Judged, New, Again, Refused, after_judged, is_new, refusal_in}
+use Rattle.kb_machine.specs.Machines.{MachineValue, judged, reply_of}
 use Rattle.kb_machine.specs.Histories.{replay}
 use Rattle.kb_lane.specs.declared.work.Work.{Work}
 use Rattle.kb_lane.specs.Lanes.{LaneValue, machine_of}
 use Rattle.kb_lane.specs.Replies.{IsReply, Takes, is_accepted, is_taken}
 use Rattle.kb_lane.specs.Works.{work_of}
+use Rattle.kb_lane.proofs.Going.{replay_more}
+use Rattle.kb_lane.proofs.SaidReplies.{Accepts, judged_accepts}
 use Rattle.kb_make.specs.Makes.{is_refused, sent}
 use Rattle.kb_make.specs.Private.Sending.{busy_of, told_refused}
-use Rattle.kb_make.proofs.Busy.{busy_same, replay_more}
-
--- a reply that isn't a refusal accepts
-abbrev Tells : {A : Type 0} → Judged LaneReply A → Type 0
-Tells (New reply after) = is_accepted reply ≡ true
-Tells (Again reply) = is_accepted reply ≡ true
-Tells (Refused refusal) = Unit {0}
-
-lifted-tells : {R A B : Type 0} (reply : R → LaneReply) (after : A → B)
-    → ((told : R) → is_accepted (reply told) ≡ true) → (told : Judged R A) → Tells (lifted reply after told)
-lifted-tells reply after accepts (New told next) = accepts told
-lifted-tells reply after accepts (Again told) = accepts told
-lifted-tells reply after accepts (Refused refusal) = tt
-
--- so does each of the machine's
-judged-tells : (machine : MachineValue) (today : ℕ) (command : Command) → Tells (judged machine today command)
-unfolding judged
-judged-tells machine today (kinds.Catalog c) =
-    lifted-tells replies.Version (with_texts machine) (λ told. refl) (catalog_judged machine.texts c)
-judged-tells machine today (kinds.OverdueRules c) =
-    lifted-tells replies.States (with_texts machine) (λ told. refl) (overdue_judged machine.texts c)
-judged-tells machine today command =
-    lifted-tells replies.Accepted (with_book machine (account_of command)) (λ told. refl)
-    (by_book machine today command (book_of machine (account_of command)))
+use Rattle.kb_make.proofs.Busy.{busy_same}
 
 -- what is refused is told as a refusal, and nothing else is
 told-unrefused : {A : Type 0} (told : Judged LaneReply A) (reply : LaneReply) → reply_of told ≡ reply
@@ -46,11 +23,11 @@ told-unrefused (New own after) reply is accepts = refl
 told-unrefused (Again own) reply is accepts = refl
 told-unrefused (Refused refusal) reply is accepts = absurd (true≢false (sym accepts ∙ sym (ap is_accepted is)))
 
-told-refusal : {A : Type 0} (told : Judged LaneReply A) (reply : LaneReply) → Tells told → reply_of told ≡ reply
+told-refusal : {A : Type 0} (told : Judged LaneReply A) (reply : LaneReply) → Accepts told → reply_of told ≡ reply
     → is_accepted reply ≡ false → is_some (refusal_in told) ≡ true
-told-refusal (New own after) reply tells is refuses = absurd (true≢false (sym tells ∙ ap is_accepted is ∙ refuses))
-told-refusal (Again own) reply tells is refuses = absurd (true≢false (sym tells ∙ ap is_accepted is ∙ refuses))
-told-refusal (Refused refusal) reply tells is refuses = refl
+told-refusal (New own after) reply accepts is refuses = absurd (true≢false (sym accepts ∙ ap is_accepted is ∙ refuses))
+told-refusal (Again own) reply accepts is refuses = absurd (true≢false (sym accepts ∙ ap is_accepted is ∙ refuses))
+told-refusal (Refused refusal) reply accepts is refuses = refl
 
 -- what isn't new changes nothing
 unnew-stays : {A : Type 0} (before : A) (told : Judged LaneReply A) → is_new told ≡ false
@@ -114,7 +91,7 @@ module _ {D G : Type 0} (old new : LaneValue D G) (today : ℕ) (command : Comma
       accepted-sent (replies.States number) is taken untaken refl (λ fault. cc) (is_new told) refl
   performed_sent (replies.Refused refusal) is taken untaken =
       refused-sent (replies.Refused refusal) is taken untaken
-      (told-refusal told (replies.Refused refusal) (judged-tells (machine_of old) today command) is refl) (λ fault. cc)
+      (told-refusal told (replies.Refused refusal) (judged_accepts (machine_of old) today command) is refl) (λ fault. cc)
   performed_sent replies.DiskFault is taken untaken = tt
   performed_sent (replies.Stopped count) is taken untaken = tt
   performed_sent (replies.Full commands size) is taken untaken = tt
@@ -131,7 +108,7 @@ performed_refused machine today command (replies.Version number) is =
 performed_refused machine today command (replies.States number) is =
     sym (told-unrefused (judged machine today command) (replies.States number) is refl)
 performed_refused machine today command (replies.Refused refusal) is =
-    sym (told-refusal (judged machine today command) (replies.Refused refusal) (judged-tells machine today command) is
+    sym (told-refusal (judged machine today command) (replies.Refused refusal) (judged_accepts machine today command) is
     refl)
 performed_refused machine today command replies.DiskFault is = tt
 performed_refused machine today command (replies.Stopped count) is = tt
