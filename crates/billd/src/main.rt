@@ -1,7 +1,7 @@
 //! `billd`: subscription billing.
 //!
-//! The program is the top call of the library `kb_billd` over the process's own words, streams, folders, connections
-//! and clock, and promises what that call's clauses say.
+//! The program is the top call of the library `kb_billd` over the process's own words, streams, folders,
+//! connections and clock, and promises what that call's clauses say.
 #![tactic(auto)]
 
 use kb_billd::billd;

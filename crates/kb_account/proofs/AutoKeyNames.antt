@@ -1,6 +1,8 @@
 -- The key of an automatic payment is a name.
-use Rattle.std.proofs.Common.{◌≡◌, ℕ, zero, suc, ◌+◌, ◌<◌, ◌≤◌, ◌^◌, ◌%◌, ◌/◌, Bool, true, ◌&&◌, List, [], ◌∷◌, ◌++◌, length, codes}
-use Rattle.std.proofs.Common.{decimal, slice_index, EachIndex, nat_lt, nat_le, IsTrue, refl, sym, ap₂, subst, ◌∙◌, arith, length-append}
+use Rattle.std.proofs.Common.{◌≡◌, ℕ, zero, suc, ◌+◌, ◌<◌, ◌≤◌, ◌^◌, ◌%◌, ◌/◌, Bool, true, ◌&&◌, List, []}
+use Rattle.std.proofs.Common.{◌∷◌, ◌++◌, length, codes}
+use Rattle.std.proofs.Common.{decimal, slice_index, EachIndex, nat_lt, nat_le, IsTrue, refl, sym, ap₂, subst}
+use Rattle.std.proofs.Common.{◌∙◌, arith, length-append}
 use Rattle.std.proofs.lemmas.Bool.Decides.{nat_tests}
 use Rattle.std.proofs.lemmas.List.Folds.{list_all-append}
 use Rattle.std.specs.Fmt.{IsBoundedDecimal}
@@ -36,7 +38,12 @@ some-digits (suc count) number =
 digits-length : (count number : ℕ) → length (digits count number) ≡ count
 digits-length zero number = refl
 digits-length (suc count) number =
-    omega (arith, length-append (digits count (number / 10)) ((48 + number % 10) ∷ []), digits-length count (number / 10))
+    omega (
+      arith,
+      length-append (digits count (number / 10)) ((48 + number % 10) ∷ []),
+      digits-length count
+          (number / 10),
+    )
 
 -- a date's text is of ten of them
 civil-named : (year month day : ℕ) → list_all is_name_byte (civil_text year month day) ≡ true
@@ -71,7 +78,8 @@ unfolding date_text
 date-length day = civil-length (1970 + month_of day / 12) (month_of day % 12 + 1) (day_of_month day)
 
 -- a few bytes of names are a name
-few-named : (bytes : List ℕ) → 0 < length bytes → length bytes ≤ 64 → list_all is_name_byte bytes ≡ true → IsName bytes
+few-named : (bytes : List ℕ) → 0 < length bytes → length bytes ≤ 64 → list_all is_name_byte bytes ≡ true
+    → IsName bytes
 few-named bytes some few all =
     let first : nat_lt 0 (length bytes) ≡ true = grind (arith, nat_tests) in
     let last : nat_le (length bytes) 64 ≡ true = grind (arith, nat_tests) in

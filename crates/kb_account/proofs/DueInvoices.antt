@@ -6,7 +6,8 @@ use Rattle.kb_book.specs.Inner.{invoice_due, may_be_paid}
 use Rattle.kb_laws.proofs.FreshKeys.{due_number}
 
 -- it has a number from 1 on
-pub due_first : (autopay : Bool) (payments : PaymentsValue) (invoices : InvoicesValue) (today : ℕ) (due : Option ℕ)
+pub due_first : (autopay : Bool) (payments : PaymentsValue) (invoices : InvoicesValue) (today : ℕ)
+    (due : Option ℕ)
     → due ≡ invoice_due autopay payments invoices today → IfSome due (λ invoice. 1 ≤ invoice)
 due_first autopay payments invoices today None is = tt
 due_first false payments invoices today (Some invoice) is = absurd (cc)

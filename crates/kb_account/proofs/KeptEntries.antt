@@ -1,7 +1,8 @@
 -- What is kept of commands, as a map and as its entries.
 use Rattle.std.proofs.Common.{◌≡◌, ℕ, sym, ap, ◌∙◌, List, [], length, Option}
 use Rattle.std.specs.Cmp.Lexicographic.{nat_list_cmp_total}
-use Rattle.std.specs.FinMap.{FinMap, find, put, entries, get, insert, empty, len, len-empty, get-entries, entries-insert, len-entries}
+use Rattle.std.specs.FinMap.{FinMap, find, put, entries, get, insert, empty, len, len-empty, get-entries}
+use Rattle.std.specs.FinMap.{entries-insert, len-entries}
 use Rattle.std.proofs.lemmas.List.{nil_from_length}
 use Rattle.kb_sharing.specs.Keys.{by_words}
 
@@ -15,7 +16,8 @@ pub kept_entry : {X : Type 0} (m : FinMap by_words X) (key : List ℕ) (found : 
 kept_entry m key found is = sym (is ∙ get-entries m key)
 
 -- what is put into the map is put among its entries
-pub kept_with : {X : Type 0} (old new : FinMap by_words X) (key : List ℕ) (value : X) → new ≡ insert old key value
+pub kept_with : {X : Type 0} (old new : FinMap by_words X) (key : List ℕ) (value : X)
+    → new ≡ insert old key value
     → entries new ≡ put by_words key value (entries old)
 kept_with old new key value is = ap entries is ∙ entries-insert nat_list_cmp_total old key value
 

@@ -1,5 +1,6 @@
 -- The book after an accepted command, as it is put together.
-use Rattle.std.proofs.Common.{◌≡◌, ℕ, zero, suc, ◌+◌, ◌*◌, ◌^◌, ◌≤◌, Bool, true, false, List, [], ◌∷◌, ◌++◌, length, Option, Some, None}
+use Rattle.std.proofs.Common.{◌≡◌, ℕ, zero, suc, ◌+◌, ◌*◌, ◌^◌, ◌≤◌, Bool, true, false, List, [], ◌∷◌, ◌++◌}
+use Rattle.std.proofs.Common.{length, Option, Some, None}
 use Rattle.std.proofs.Common.{ℤ, refl, sym, ap, ◌∙◌, arith, All, nat_lt}
 use Rattle.std.proofs.lemmas.Int.{ints}
 use Rattle.std.proofs.lemmas.List.Elements.{All-nil, All-cons, All-head, All-tail}
@@ -22,7 +23,8 @@ use Rattle.kb_book.specs.Books.{BookValue, Kept, Keyed}
 use Rattle.kb_book.specs.Edits.{begun}
 use Rattle.kb_book.specs.Rows.{first_refusal}
 use Rattle.kb_book.specs.Refusals.{max_charge, own_rows}
-use Rattle.kb_book.specs.Steps.{Outcome, issue_over, own_lines, with_paid, with_invoice, number_of, key_of, keep, billed_outcome, accepted_over}
+use Rattle.kb_book.specs.Steps.{Outcome, issue_over, own_lines, with_paid, with_invoice, number_of, key_of}
+use Rattle.kb_book.specs.Steps.{keep, billed_outcome, accepted_over}
 use Rattle.kb_laws.proofs.PaidRows.{with_paid-moved, with_paid-none}
 use Rattle.kb_laws.proofs.NotedRows.{with_paid-new}
 use Rattle.kb_laws.proofs.InvoicedAttempts.{AreInvoiced}
@@ -49,7 +51,8 @@ moved-noted old new invoices (suc place) amount moved noted =
     with_paid-moved old new invoices (suc place) amount moved.by (omega arith) noted
 
 -- also with one more invoice
-move-noted : (old new : PaymentsValue) (invoices : InvoicesValue) (today : ℕ) (lines : List Line) (moved : Move)
+move-noted : (old new : PaymentsValue) (invoices : InvoicesValue) (today : ℕ) (lines : List Line)
+    (moved : Move)
     → HasMoved old new moved → with_paid old invoices ≡ invoices → AreInvoiced (length invoices.rows) old
     → with_paid new (with_invoice invoices today lines) ≡ with_move moved (with_invoice invoices today lines)
 move-noted old new invoices today lines moved has noted invoiced =
@@ -64,7 +67,8 @@ keep-kept command None outcome = refl
 keep-kept command (Some key) outcome = refl
 
 -- the answer and the book that an accepted command gives
-next-is : (world : WorldValue) (book edited : BookValue) (today : ℕ) (command : Command) (issue : Issue) (lines : List Line)
+next-is : (world : WorldValue) (book edited : BookValue) (today : ℕ) (command : Command) (issue : Issue)
+    (lines : List Line)
     (invoices : InvoicesValue) (answer : Answer) (kept : Keyed Kept)
     → edited ≡ begun world book today command
     → issue ≡ issue_over world edited first_day charged_days
@@ -82,13 +86,20 @@ next-is : (world : WorldValue) (book edited : BookValue) (today : ℕ) (command 
     → accepted_over world book today command first_day charged_days
     ≡ (
       answer,
-      record edited { invoices = invoices; charges = issue.charges; commands = edited.commands + 1; kept = kept },
+      record edited {
+        invoices = invoices;
+        charges = issue.charges;
+        commands = edited.commands + 1;
+        kept =
+            kept;
+      },
     )
 next-is world book edited today command issue lines invoices answer kept edit made all after told holds =
     ap (λ (b : BookValue). keep command (key_of command)
     (billed_outcome b today (issue_over world b first_day charged_days) (own_lines command)))
     (sym edit)
-    ∙ ap (λ (i : Issue). keep command (key_of command) (billed_outcome edited today i (own_lines command))) (sym made)
+    ∙ ap (λ (i : Issue). keep command (key_of command) (billed_outcome edited today i (own_lines command)))
+    (sym made)
     ∙ ap (λ (l : List Line). keep command (key_of command) (outcome_of l)) (sym all)
     ∙ ap (λ (i : InvoicesValue). keep command (key_of command) (outcome_with i)) (sym after)
     ∙ keep-kept command (key_of command) (outcome_with invoices)
@@ -105,8 +116,15 @@ next-is world book edited today command issue lines invoices answer kept edit ma
     }
 
     outcome_for : List Line → InvoicesValue → Outcome
-    outcome_for l i =
-        (answer_of l i, record edited { invoices = i; charges = issue.charges; commands = edited.commands + 1 })
+    outcome_for l i = (
+      answer_of l i,
+      record edited {
+        invoices = i;
+        charges = issue.charges;
+        commands =
+            edited.commands + 1;
+      },
+    )
 
     outcome_of : List Line → Outcome
     outcome_of l = outcome_for l (levelled (with_paid edited.payments (with_invoice edited.invoices today l)))
@@ -117,13 +135,21 @@ next-is world book edited today command issue lines invoices answer kept edit ma
     outcome_kept : Answer → Keyed Kept → Outcome
     outcome_kept a k = (
       a,
-      record edited { invoices = invoices; charges = issue.charges; commands = edited.commands + 1; kept = k },
+      record edited {
+        invoices = invoices;
+        charges = issue.charges;
+        commands = edited.commands + 1;
+        kept =
+            k;
+      },
     )
 
 -- where what is paid moved on one invoice
-pub next-made : (world : WorldValue) (book edited next : BookValue) (today : ℕ) (command : Command) (issue : Issue)
+pub next-made : (world : WorldValue) (book edited next : BookValue) (today : ℕ) (command : Command)
+    (issue : Issue)
     (lines : List Line) (moved : Move) (invoices : InvoicesValue) (answer : Answer) (kept : Keyed Kept)
-    → with_paid book.payments edited.invoices ≡ edited.invoices → AreInvoiced (length edited.invoices.rows) book.payments
+    → with_paid book.payments edited.invoices ≡ edited.invoices
+    → AreInvoiced (length edited.invoices.rows) book.payments
     → edited ≡ begun world book today command → HasMoved book.payments edited.payments moved
     → issue ≡ issue_over world edited first_day charged_days → lines ≡ issue.lines ++ own_lines command
     → invoices ≡ levelled (with_move moved (with_invoice edited.invoices today lines))
@@ -136,13 +162,21 @@ pub next-made : (world : WorldValue) (book edited next : BookValue) (today : ℕ
       unpaid = unpaid invoices.rows;
     }
     → kept ≡ kept_after edited.kept command answer (key_of command)
-    → next ≡ record edited { invoices = invoices; charges = issue.charges; commands = edited.commands + 1; kept = kept }
+    → next ≡ record edited {
+      invoices = invoices;
+      charges = issue.charges;
+      commands =
+          edited.commands + 1;
+      kept = kept;
+    }
     → accepted_over world book today command first_day charged_days ≡ (answer, next)
-next-made world book edited next today command issue lines moved invoices answer kept noted invoiced edit has made all after
+next-made world book edited next today command issue lines moved invoices answer kept noted invoiced edit has
+    made all after
     told holds is =
     next-is world book edited today command issue lines invoices answer kept edit made all
     (after ∙ ap (λ (i : InvoicesValue). levelled i)
-    (sym (move-noted book.payments edited.payments edited.invoices today lines moved has noted invoiced))) told holds
+    (sym (move-noted book.payments edited.payments edited.invoices today lines moved has noted invoiced)))
+    told holds
     ∙ ap (λ (b : BookValue). (answer, b)) (sym is)
 
 -- lines of items come to no more than as many times the greatest price

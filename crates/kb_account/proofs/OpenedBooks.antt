@@ -31,15 +31,18 @@ first_answer = record { command = 1; invoice = None; total = pos 0; credit = pos
 abbrev pub IsOpened : OpenAccount → BookValue → Answer → Type 0
 IsOpened c book answer =
     (world : WorldValue) (today : ℕ)
-    → accepted_over world (new_book c.account c.currency c.bcd c.autopay) today (kinds.OpenAccount c) first_day charged_days
+    → accepted_over world (new_book c.account c.currency c.bcd c.autopay) today (kinds.OpenAccount c)
+    first_day charged_days
     ≡ (answer, book)
 
 -- it is a book without a subscription that keeps its answer
 pub opened-is : (command : Command) (c : OpenAccount) (timeline : TimelineValue) (blocks : List BlockState)
-    (payments : PaymentsValue) (invoices : InvoicesValue) (charges : List SubscriptionItems) (kept : Keyed Kept)
+    (payments : PaymentsValue) (invoices : InvoicesValue) (charges : List SubscriptionItems)
+    (kept : Keyed Kept)
     (answer : Answer) → command ≡ kinds.OpenAccount c → timeline ≡ no_subscriptions → blocks ≡ []
     → payments ≡ no_payments → invoices ≡ no_invoices → charges ≡ []
-    → kept ≡ put by_words c.key (record { spelling = spelling command; answer = answer }) [] → answer ≡ first_answer
+    → kept ≡ put by_words c.key (record { spelling = spelling command; answer = answer }) []
+    → answer ≡ first_answer
     → IsOpened c (record {
       account = c.account;
       currency = c.currency;
@@ -57,11 +60,13 @@ pub opened-is : (command : Command) (c : OpenAccount) (timeline : TimelineValue)
       commands = 1;
       kept = kept;
     }) answer
-opened-is command c timeline blocks payments invoices charges kept answer is one two three four five six told world today =
+opened-is command c timeline blocks payments invoices charges kept answer is one two three four five six
+    told world today =
     rw (one, two, three, four, five, six, is, told)
 
 -- such a book is sound
-pub opened-sound_book : (c : OpenAccount) (book : BookValue) (answer : Answer) → IsOpened c book answer → IsBook book
+pub opened-sound_book : (c : OpenAccount) (book : BookValue) (answer : Answer) → IsOpened c book answer
+    → IsBook book
 opened-sound_book c book answer made =
     subst (λ (outcome : Outcome). IsBook outcome.1) (made no_world 0)
     (opened-sound c.account c.currency c.bcd c.autopay no_world 0 c)
@@ -69,13 +74,15 @@ opened-sound_book c book answer made =
     no_world : WorldValue
     no_world = record { versions = []; states = [] }
 
-module _ (command : Command) (c : OpenAccount) (is : command ≡ kinds.OpenAccount c) (book : BookValue) (answer : Answer)
+module _ (command : Command) (c : OpenAccount) (is : command ≡ kinds.OpenAccount c) (book : BookValue)
+    (answer : Answer)
     (made : IsOpened c book answer) where
   -- whichever the command is
   pub opened-command : (world : WorldValue) (today : ℕ)
       → accepted_over world (opening_book command) today command first_day charged_days ≡ (answer, book)
   opened-command world today =
-      subst (λ (asked : Command). accepted_over world (opening_book asked) today asked first_day charged_days ≡ (answer, book))
+      subst (λ (asked : Command). accepted_over world (opening_book asked) today asked first_day charged_days
+      ≡ (answer, book))
       (sym is) (made world today)
 
   -- and it is billed, in any world

@@ -1,6 +1,8 @@
 -- What a command on payments moves.
-use Rattle.std.proofs.Common.{◌≡◌, ℕ, ◌^◌, ◌≤◌, ◌<◌, Bool, true, false, not, ◌&&◌, List, [], Option, Some, None, is_some}
-use Rattle.std.proofs.Common.{ℤ, pos, neg_ℤ, nat_abs, ◌+ℤ◌, ◌==◌, if◌then◌else◌, refl, sym, ap, subst, ◌∙◌, arith, IfSome, eq-eqb}
+use Rattle.std.proofs.Common.{◌≡◌, ℕ, ◌^◌, ◌≤◌, ◌<◌, Bool, true, false, not, ◌&&◌, List, [], Option, Some}
+use Rattle.std.proofs.Common.{None, is_some}
+use Rattle.std.proofs.Common.{ℤ, pos, neg_ℤ, nat_abs, ◌+ℤ◌, ◌==◌, if◌then◌else◌, refl, sym, ap, subst, ◌∙◌}
+use Rattle.std.proofs.Common.{arith, IfSome, eq-eqb}
 use Rattle.std.proofs.lemmas.Int.{ints}
 use Rattle.kb_payment.specs.declared.attempt.Attempt.{Attempt}
 use Rattle.kb_payment.specs.declared.attempt.Kind.TheVariants.{Refund, Chargeback}
@@ -8,7 +10,8 @@ use Rattle.kb_payment.specs.declared.attempt.Status.{Status}
 use Rattle.kb_payment.specs.declared.attempt.Status.TheVariants.{Unknown, Success}
 use Rattle.kb_payment.specs.Attempts.{is_open, with_status}
 use Rattle.kb_payment.specs.PaymentSums.{PaymentsValue, attempt_of, with_attempt, paid_on, Moves}
-use Rattle.kb_payment.specs.PaymentEdits.{amount_of, purchase_of, purchased, give_back_of, refunded, charged_back}
+use Rattle.kb_payment.specs.PaymentEdits.{amount_of, purchase_of, purchased, give_back_of, refunded}
+use Rattle.kb_payment.specs.PaymentEdits.{charged_back}
 use Rattle.kb_payment.specs.PaymentEdits.{settled, give_back_fault}
 use Rattle.kb_payment.specs.SoundPayments.{ArePayments}
 use Rattle.kb_laws.proofs.PaidMoves.{put-moves, settle-moves, pays, nat_abs-pays, nat_abs-pos}
@@ -16,7 +19,8 @@ use Rattle.kb_codec.specs.declared.command.Pay.{Pay}
 use Rattle.kb_credit.specs.InvoiceRows.{InvoicesValue}
 use Rattle.kb_book.specs.declared.refusal.Refusal.TheVariants as refusal
 use Rattle.kb_book.specs.Rows.{first_refusal}
-use Rattle.kb_book.specs.PaymentRows.{is_own_key, pay_rows, give_back_rows, fault_rows, settle_rows, may_settle, same_status}
+use Rattle.kb_book.specs.PaymentRows.{is_own_key, pay_rows, give_back_rows, fault_rows, settle_rows}
+use Rattle.kb_book.specs.PaymentRows.{may_settle, same_status}
 use Rattle.kb_laws.proofs.AcceptedPayments.{first-none, pay-new}
 use Rattle.kb_laws.proofs.InvoicedAttempts.{AreInvoiced, invoiced-found}
 use Rattle.kb_account.specs.declared.begun.Move.{Move}
@@ -32,23 +36,28 @@ no-attempt None is = refl
 no-attempt (Some attempt) is = absurd (cc)
 
 -- what stays hasn't moved
-pub stays-moved : (old new : PaymentsValue) → ((asked : ℕ) → paid_on new asked ≡ paid_on old asked) → HasMoved old new nothing
+pub stays-moved : (old new : PaymentsValue) → ((asked : ℕ) → paid_on new asked ≡ paid_on old asked)
+    → HasMoved old new nothing
 stays-moved old new same = record { by = λ asked. same asked ∙ none asked (0 == asked); small = omega arith }
   where
-    none : (asked : ℕ) (here : Bool) → paid_on old asked ≡ paid_on old asked +ℤ (if here then pos 0 else pos 0)
+    none : (asked : ℕ) (here : Bool) → paid_on old asked
+        ≡ paid_on old asked +ℤ (if here then pos 0 else pos 0)
     none asked true = omega (arith, ints)
     none asked false = omega (arith, ints)
 
 -- an attempt of a new key that pays nothing moves nothing
-pub new-moved : (old new : PaymentsValue) (key : List ℕ) (attempt : Attempt) → new ≡ with_attempt old key attempt
+pub new-moved : (old new : PaymentsValue) (key : List ℕ) (attempt : Attempt)
+    → new ≡ with_attempt old key attempt
     → attempt_of old key ≡ None → pays attempt ≡ pos 0 → HasMoved old new nothing
 new-moved old new key attempt is fresh none =
     stays-moved old new
-    (λ asked. ap (λ (payments : PaymentsValue). paid_on payments asked) is ∙ put-moves old key attempt fresh asked
+    (λ asked. ap (λ (payments : PaymentsValue). paid_on payments asked) is
+    ∙ put-moves old key attempt fresh asked
     ∙ ap (λ (sum : ℤ). paid_on old asked +ℤ (if attempt.invoice == asked then sum else pos 0)) none
     ∙ stays asked (attempt.invoice == asked))
   where
-    stays : (asked : ℕ) (here : Bool) → paid_on old asked +ℤ (if here then pos 0 else pos 0) ≡ paid_on old asked
+    stays : (asked : ℕ) (here : Bool) → paid_on old asked +ℤ (if here then pos 0 else pos 0)
+        ≡ paid_on old asked
     stays asked true = omega (arith, ints)
     stays asked false = omega (arith, ints)
 
@@ -68,7 +77,8 @@ give_back-found old key of amount none =
     by_key (attempt_of old key) refl (attempt_of old of) refl
     (first-none (is_own_key key) refusal.BadName (fault_rows (give_back_fault old key of amount)) none).1
   where
-    by_key : (taken : Option Attempt) → attempt_of old key ≡ taken → (found : Option Attempt) → attempt_of old of ≡ found
+    by_key : (taken : Option Attempt) → attempt_of old key ≡ taken → (found : Option Attempt)
+        → attempt_of old of ≡ found
         → first_refusal (fault_rows (give_back_fault old key of amount)) ≡ None
         → (attempt_of old key ≡ None) × ((purchase : Attempt) × (attempt_of old of ≡ Some purchase))
     by_key (Some attempt) taken found there accepted = absurd (let told = rw taken at accepted in cc)
@@ -81,7 +91,8 @@ pub refund-moved : (old new : PaymentsValue) (key of : List ℕ) (amount day : �
     → HasMoved old new nothing
 refund-moved old new key of amount day none is =
     let found = give_back-found old key of amount none in
-    new-moved old new key (give_back_of Refund Unknown of found.1.0 amount day) (rw found.1.1 at is) found.0 refl
+    new-moved old new key (give_back_of Refund Unknown of found.1.0 amount day)
+    (rw found.1.1 at is) found.0 refl
 
 -- a chargeback moves its amount off the purchase's invoice
 pub chargeback-moved : (old new : PaymentsValue) (key of : List ℕ) (amount day invoice : ℕ) (moved : ℤ)
@@ -127,7 +138,8 @@ settle-moved old new key status invoice moved none is are at moves low =
     opened true other may = refl
     opened false other may = absurd (cc)
 
-    by_found : (found : Option Attempt) → attempt_of old key ≡ found → not (may_settle (attempt_of old key) status) ≡ false
+    by_found : (found : Option Attempt) → attempt_of old key ≡ found
+        → not (may_settle (attempt_of old key) status) ≡ false
         → HasMoved old new (record { invoice = invoice; amount = moved })
     by_found None there may = absurd (let told = rw there at may in cc)
     by_found (Some attempt) there may =
@@ -155,4 +167,5 @@ invoice-there count payments key invoiced = by_found (attempt_of payments key) r
     by_found : (found : Option Attempt) → attempt_of payments key ≡ found → invoice_of payments key ≤ count
     by_found None there = subst (λ (number : ℕ). number ≤ count) (sym (ap invoice_by there)) (omega arith)
     by_found (Some attempt) there =
-        subst (λ (number : ℕ). number ≤ count) (sym (ap invoice_by there)) (invoiced-found count payments key attempt invoiced there)
+        subst (λ (number : ℕ). number ≤ count) (sym (ap invoice_by there))
+        (invoiced-found count payments key attempt invoiced there)

@@ -31,7 +31,8 @@ module _ (world : WorldValue) (book : BookValue) (today : ℕ) (command : Comman
   unfolding step
   step-kept answer is = by_found found refl is
     where
-      by_same : (kept : Kept) (same : Bool) → bytes_eq kept.spelling (spelling command) ≡ same → found ≡ Some kept
+      by_same : (kept : Kept) (same : Bool) → bytes_eq kept.spelling (spelling command) ≡ same
+          → found ≡ Some kept
           → Some answer ≡ kept_answer (Some kept) command → stepped ≡ Ok (answer, book)
       by_same kept true here there told =
           let given : Some answer ≡ Some kept.answer = rw here at told in
@@ -39,12 +40,15 @@ module _ (world : WorldValue) (book : BookValue) (today : ℕ) (command : Comman
           rw (there, here) (ap (λ (a : Answer). ok_of (a, book)) same)
       by_same kept false here there told = absurd (let given = rw here at told in cc)
 
-      by_found : (kept : Option Kept) → found ≡ kept → Some answer ≡ kept_answer kept command → stepped ≡ Ok (answer, book)
+      by_found : (kept : Option Kept) → found ≡ kept → Some answer ≡ kept_answer kept command
+          → stepped ≡ Ok (answer, book)
       by_found None there told = absurd (cc)
-      by_found (Some kept) there told = by_same kept (bytes_eq kept.spelling (spelling command)) refl there told
+      by_found (Some kept) there told = by_same kept (bytes_eq kept.spelling (spelling command))
+          refl there told
 
   -- where no answer was kept, and no other command, the key is new
-  new-key : (kept : Option Kept) → None ≡ kept_answer kept command → kept_refusal kept command ≡ None → kept ≡ None
+  new-key : (kept : Option Kept) → None ≡ kept_answer kept command → kept_refusal kept command ≡ None
+      → kept ≡ None
   new-key None none allowed = refl
   new-key (Some kept) none allowed = by_same (bytes_eq kept.spelling (spelling command)) refl
     where
@@ -53,7 +57,8 @@ module _ (world : WorldValue) (book : BookValue) (today : ℕ) (command : Comman
       by_same false here = absurd (let given = rw here at allowed in cc)
 
   -- a new command that isn't refused is accepted
-  pub step-accepted : (outcome : Outcome) → None ≡ kept_answer found command → kept_refusal found command ≡ None
+  pub step-accepted : (outcome : Outcome) → None ≡ kept_answer found command
+      → kept_refusal found command ≡ None
       → first_refusal (rows_of world book today command) ≡ None
       → accepted_over world book today command first_day charged_days ≡ outcome → stepped ≡ Ok outcome
   unfolding step
@@ -67,7 +72,8 @@ module _ (world : WorldValue) (book : BookValue) (today : ℕ) (command : Comman
   step-reused NoMemory is = tt
   step-reused (Refused refusal) is = by_found found refl is
     where
-      by_same : (kept : Kept) (same : Bool) → bytes_eq kept.spelling (spelling command) ≡ same → found ≡ Some kept
+      by_same : (kept : Kept) (same : Bool) → bytes_eq kept.spelling (spelling command) ≡ same
+          → found ≡ Some kept
           → kept_refusal (Some kept) command ≡ Some refusal → refusal_by stepped ≡ Some refusal
       by_same kept true here there told = absurd (let given = rw here at told in cc)
       by_same kept false here there told =
@@ -76,11 +82,14 @@ module _ (world : WorldValue) (book : BookValue) (today : ℕ) (command : Comman
       by_found : (kept : Option Kept) → found ≡ kept → kept_refusal kept command ≡ Some refusal
           → refusal_by stepped ≡ Some refusal
       by_found None there told = absurd (cc)
-      by_found (Some kept) there told = by_same kept (bytes_eq kept.spelling (spelling command)) refl there told
+      by_found (Some kept) there told = by_same kept (bytes_eq kept.spelling (spelling command))
+          refl there told
 
   -- a new command is refused by its first refusal
-  pub step-refused : (fault : Unprepared) → None ≡ kept_answer found command → kept_refusal found command ≡ None
-      → IsUnprepared (first_refusal (rows_of world book today command)) fault → IsUnprepared (refusal_by stepped) fault
+  pub step-refused : (fault : Unprepared) → None ≡ kept_answer found command
+      → kept_refusal found command ≡ None
+      → IsUnprepared (first_refusal (rows_of world book today command)) fault
+      → IsUnprepared (refusal_by stepped) fault
   unfolding step
   step-refused NoMemory none allowed is = tt
   step-refused (Refused refusal) none allowed is = rw (new-key found none allowed, is)

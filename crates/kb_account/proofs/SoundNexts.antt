@@ -1,5 +1,6 @@
 -- The book after an accepted command is sound.
-use Rattle.std.proofs.Common.{◌≡◌, ℕ, ◌+◌, ◌^◌, ◌≤◌, ◌<◌, List, ◌++◌, length, nat_abs, ap, subst, ◌∙◌, arith, All, None}
+use Rattle.std.proofs.Common.{◌≡◌, ℕ, ◌+◌, ◌^◌, ◌≤◌, ◌<◌, List, ◌++◌, length, nat_abs, ap, subst, ◌∙◌, arith}
+use Rattle.std.proofs.Common.{All, None}
 use Rattle.kb_days.specs.Calendar.{first_day, charged_days}
 use Rattle.kb_sharing.specs.Sums.{sum_of}
 use Rattle.kb_credit.specs.declared.line.Line.{Line}
@@ -28,7 +29,8 @@ moved-once : (old new : PaymentsValue) (moved : Move) → HasMoved old new moved
 moved-once old new moved has = (moved.invoice, moved.amount, has.small, has.by)
 
 -- a book that is the one after an accepted command is sound
-pub next-sound : (world : WorldValue) (book edited next : BookValue) (today : ℕ) (command : Command) (issue : Issue)
+pub next-sound : (world : WorldValue) (book edited next : BookValue) (today : ℕ) (command : Command)
+    (issue : Issue)
     (lines : List Line) (moved : Move) (answer : Answer)
     → IsBook book → book.commands + 1 < 2 ^ 32 → first_refusal (own_rows world book today command) ≡ None
     → edited ≡ begun world book today command
@@ -38,19 +40,24 @@ pub next-sound : (world : WorldValue) (book edited next : BookValue) (today : �
     → All IsItemLine lines → length lines ≤ 2 ^ 25
     → accepted_over world book today command first_day charged_days ≡ (answer, next)
     → IsBook next
-next-sound world book edited next today command issue lines moved answer sound room accepted edit has made all plain few is =
+next-sound world book edited next today command issue lines moved answer sound room accepted edit has made all
+    plain few is =
     subst (λ (outcome : Outcome). IsBook outcome.1) is
     (sound-accepted world book today command sound accepted room small
-    (subst (λ (b : BookValue). MovesOnce book.payments b.payments) edit (moved-once book.payments edited.payments moved has)))
+    (subst (λ (b : BookValue). MovesOnce book.payments b.payments) edit
+    (moved-once book.payments edited.payments moved has)))
   where
-    whole : lines ≡ (issue_over world (begun world book today command) first_day charged_days).lines ++ own_lines command
+    whole : lines ≡ (issue_over world (begun world book today command) first_day charged_days).lines
+        ++ own_lines command
     whole =
         all ∙ ap (λ (i : Issue). i.lines ++ own_lines command) made
         ∙ ap (λ (b : BookValue). (issue_over world b first_day charged_days).lines ++ own_lines command) edit
 
-    small : nat_abs (sum_of amount_of ((issue_over world (begun world book today command) first_day charged_days).lines
+    small : nat_abs (sum_of amount_of ((issue_over world (begun world book today command) first_day
+        charged_days).lines
         ++ own_lines command)) ≤ 2 ^ 55
     small =
         let size = nat_abs-sum_of amount_of lines in
         let most = lines-size lines plain in
-        subst (λ (l : List Line). nat_abs (sum_of amount_of l) ≤ 2 ^ 55) whole (omega (arith, size, most, few))
+        subst (λ (l : List Line). nat_abs (sum_of amount_of l) ≤ 2 ^ 55) whole
+        (omega (arith, size, most, few))

@@ -1,5 +1,6 @@
 -- What is shown of an account.
-use Rattle.std.specs.Prelude.{ℕ, ◌+◌, nat_eq, List, [], ◌∷◌, ◌++◌, slice_get, option_map, option_and_then, option_to_list}
+use Rattle.std.specs.Prelude.{ℕ, ◌+◌, nat_eq, List, [], ◌∷◌, ◌++◌, slice_get, option_map, option_and_then}
+use Rattle.std.specs.Prelude.{option_to_list}
 use Rattle.std.specs.Prelude.{Option, Some, None, Result, Ok, Err, if◌then◌else◌, map, pos, false, codes}
 use Rattle.std.specs.Prelude.{◌≡◌, refl}
 use Rattle.kb_days.specs.Dates.{march}
@@ -118,7 +119,8 @@ place_view facts billed day sub subscription = record {
   bundle = bundle_at facts.timeline.bundles subscription.bundle;
   day = day;
   state = state_of facts subscription sub day;
-  plan = option_map (λ (governing : Governing). governing.choice.plan.name) (live_terms facts subscription day);
+  plan = option_map (λ (governing : Governing). governing.choice.plan.name)
+      (live_terms facts subscription day);
   phase = option_map (λ (governing : Governing). governing.phase.kind) (live_terms facts subscription day);
   charged_through = through_of facts sub billed;
 }

@@ -31,7 +31,11 @@ impl State {
         requires below { All (AreBelow (length self.now.invoices.items + 1))
             (begun_of (value_of self.now) begun.now).charges }
         requires room { length self.now.invoices.items < 2 ^ 60 }
-        ensures issue { IfOk result (λ issue. record { lines = issue.lines.items; charges = issue.charges.items }
+        ensures issue { IfOk result (λ issue. record {
+          lines = issue.lines.items;
+          charges =
+              issue.charges.items;
+        }
             ≡ steps.issue_over world.now (begun_of (value_of self.now) begun.now) first_day charged_days) }
         ensures few { IfOk result (λ issue. length issue.lines.items ≤ 512 * charged_days) }
         ensures plain { IfOk result (λ issue. All IsItemLine issue.lines.items) }

@@ -78,7 +78,8 @@ impl Book {
         ensures step { IfOk result (λ prepared. told.step world.now self.now today command.now
             ≡ Ok (prepared_outcome self.now prepared)) }
         ensures kept { IfOk result (λ prepared. is_kept prepared ≡ is_kept_command self.now command.now) }
-        ensures refused { IfErr result (IsUnprepared (refusal_by (told.step world.now self.now today command.now))) }
+        ensures refused { IfErr result (IsUnprepared (refusal_by
+            (told.step world.now self.now today command.now))) }
         ensures billed { IfOk result (λ prepared. IfNew (λ book answer. IsBilled world.now book) prepared) }
         ensures even { IfOk result (λ prepared. IfNew (λ book answer. IsEven world.now book) prepared) }
         ensures added { IfOk result (λ prepared. (other : WorldValue) → IsBilled other self.now
@@ -115,7 +116,8 @@ impl Book {
     /// if nothing is due, or the limit of blocking states refuses a transition that is. It takes no memory.
     pub fn due_next(&self, world: &World, today: Day) -> Option<Command>
         ensures due { result ≡ next_due world.now self.now today }
-        ensures allowed { IfSome result (λ command. first_refusal (told.rows_of world.now self.now today command)
+        ensures allowed { IfSome result (λ command. first_refusal
+            (told.rows_of world.now self.now today command)
             ≡ None) }
     {
         match self.state.next_due(world, today) {

@@ -31,7 +31,8 @@ impl State {
         ensures begun { IfOk result (λ edit. begun_of (value_of self.now) edit
             ≡ begun world.now (value_of self.now) today command.now) }
         ensures sound { IfOk result (λ edit. IsBegun (value_of self.now) edit) }
-        ensures refused { IfErr result (IsUnprepared (own_refusal world.now (value_of self.now) today command.now)) }
+        ensures refused { IfErr result (IsUnprepared (own_refusal world.now (value_of self.now) today
+            command.now)) }
     {
         match command {
             Command::Catalog(_) | Command::OverdueRules(_) => Ok(self.unedited()?),

@@ -43,7 +43,11 @@ impl State {
     /// Other blocking states, as a command of today leaves them.
     pub fn with_blocks(&self, alloc: Global, blocks: Blocks, today: Day) -> Result<Begun, NoMemory>
         ensures begun { IfOk result (λ begun. begun_of (value_of self.now) begun
-            ≡ record (value_of self.now) { blocks = blocks; billed = moved_to self.now.billed (Some today) }) }
+            ≡ record (value_of self.now) {
+              blocks = blocks;
+              billed =
+                  moved_to self.now.billed (Some today);
+            }) }
         ensures sound { IfOk result (λ begun. IsBegun (value_of self.now) begun) }
     {
         let same = self.unedited()?;

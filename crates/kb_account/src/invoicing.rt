@@ -1,5 +1,6 @@
 //! The invoices of an account after a command.
-ghost use Rattle.std.specs.Prelude.{◌≡◌, ◌-◌, ◌+◌, ◌^◌, ◌<◌, ◌≤◌, ◌≤ℤ◌, pos, false, length, nat_abs, All, IfOk};
+ghost use Rattle.std.specs.Prelude.{◌≡◌, ◌-◌, ◌+◌, ◌^◌, ◌<◌, ◌≤◌, ◌≤ℤ◌, pos, false, length, nat_abs, All};
+ghost use Rattle.std.specs.Prelude.{IfOk};
 ghost use Rattle.kb_credit.specs.Sizes.{size_of};
 ghost use Rattle.kb_credit.specs.Items.{amount_of, is_adjustment};
 ghost use Rattle.kb_credit.specs.InvoiceRows.{balance_of};

@@ -115,7 +115,8 @@ impl State {
 
     /// Whether there is room for one command more.
     fn has_room(&self) -> bool
-        ensures { IsTrue result ↔ ((self.now.commands < 2 ^ 32 - 1) × (length self.now.invoices.items < 2 ^ 60)) }
+        ensures { IsTrue result ↔ ((self.now.commands < 2 ^ 32 - 1)
+            × (length self.now.invoices.items < 2 ^ 60)) }
     {
         self.commands < MAX_ACCEPTED && self.invoices.items() < MAX_ITEMS
     }
@@ -130,7 +131,8 @@ impl State {
         edit: Begun,
     ) -> Result<Next, NoMemory>
         requires sound { IsBook (value_of self.now) }
-        requires begun { begun_of (value_of self.now) edit ≡ begun world.now (value_of self.now) today command.now }
+        requires begun { begun_of (value_of self.now) edit
+            ≡ begun world.now (value_of self.now) today command.now }
         requires edit { IsBegun (value_of self.now) edit }
         requires accepted { own_refusal world.now (value_of self.now) today command.now ≡ None }
         requires few { self.now.commands < 2 ^ 32 - 1 }

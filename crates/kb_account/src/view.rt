@@ -43,7 +43,8 @@ impl Book {
         query: &Query,
     ) -> Result<View, Unprepared>
         ensures shown { IfOk result (λ view. answer_to world.now self.now today query.now ≡ Ok view) }
-        ensures refused { IfErr result (IsUnprepared (refusal_by (answer_to world.now self.now today query.now))) }
+        ensures refused { IfErr result (IsUnprepared (refusal_by
+            (answer_to world.now self.now today query.now))) }
     {
         let state = &self.state;
         match *query {

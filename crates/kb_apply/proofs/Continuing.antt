@@ -1,5 +1,6 @@
 -- Lanes go on in whatever a line does.
-use Rattle.std.proofs.Common.{◌≡◌, ℕ, zero, suc, ◌+◌, ◌-◌, ◌⊎◌, inl, inr, Bool, true, false, List, [], ◌∷◌, length, set, Some, Result, Ok, Err, arith, refl, ap, subst, ◌∙◌}
+use Rattle.std.proofs.Common.{◌≡◌, ℕ, zero, suc, ◌+◌, ◌-◌, ◌⊎◌, inl, inr, Bool, true, false, List, [], ◌∷◌}
+use Rattle.std.proofs.Common.{length, set, Some, Result, Ok, Err, arith, refl, ap, subst, ◌∙◌}
 use Rattle.std.specs.List.{slice_get}
 use Rattle.kb_base.specs.Machine.{IsRun}
 use Rattle.kb_base.specs.Stream.{CutsFirst, IsDone, IsGivenUp}
@@ -75,12 +76,21 @@ module _ {D G C : Type 0} (outside : Outside D G C) where
   stays : (lane : LaneValue D G) → GoesOn lane lane
   stays lane = record {
     well = well_none outside.honest outside.moment outside.left_since lane.log lane.log refl;
-    itself = record { lanes = refl; lane = refl; opened = refl; faults = refl; as_honest = refl; rising = omega arith };
+    itself = record {
+      lanes = refl;
+      lane = refl;
+      opened = refl;
+      faults = refl;
+      as_honest = refl;
+      rising =
+          omega arith;
+    };
   }
 
   goes_then : (one two three : LaneValue D G) → GoesOn one two → GoesOn two three → GoesOn one three
   goes_then one two three first second = record {
-    well = well_then outside.honest outside.moment outside.left_since one.log two.log three.log first.well second.well
+    well = well_then outside.honest outside.moment outside.left_since one.log two.log three.log
+        first.well second.well
         first.itself.as_honest second.itself.lanes second.itself.lane;
     itself = itself_then outside.honest outside.fault_count one two three first.itself second.itself;
   }
@@ -117,7 +127,8 @@ module _ {D G C : Type 0} (outside : Outside D G C) where
   drain today place (suc more) old new (between, step, drains, memory, later) =
       both old between new (at _ place old between drains.0) (drain today (place + 1) more between new later)
 
-  drain_part : (today place more : ℕ) (old new : LanesValue D G C) → DrainPart outside today place more old new
+  drain_part : (today place more : ℕ) (old new : LanesValue D G C)
+      → DrainPart outside today place more old new
       → GoOn old new
   drain_part today place zero old new same = none old new same
   drain_part today place (suc more) old new (inl same) = none old new same
@@ -125,7 +136,8 @@ module _ {D G C : Type 0} (outside : Outside D G C) where
       both old between new (at _ place old between drains.0)
       (drain_part today (place + 1) more between new later)
 
-  serve_command : (today : ℕ) (command : Command) (is_text : Bool) (old new : LanesValue D G C) (reply : LaneReply)
+  serve_command : (today : ℕ) (command : Command) (is_text : Bool) (old new : LanesValue D G C)
+      (reply : LaneReply)
       → ServesCommand outside today command is_text old new reply → GoOn old new
   serve_command today command true old new reply serves =
       text today command 0 (length old.lanes - 1) old new reply serves
@@ -136,13 +148,15 @@ module _ {D G C : Type 0} (outside : Outside D G C) where
   serve today (whats.Command command) old new spoken (reply, is, serves) =
       serve_command today command (is_text command) old new reply serves
   serve today (whats.Query query) old new spoken serves = none old new serves.1
-  serve today whats.Janitor old new spoken (step, is, looks) = look_up today 0 (length old.lanes) old new step looks
+  serve today whats.Janitor old new spoken (step, is, looks) =
+      look_up today 0 (length old.lanes) old new step looks
 
   answer : (old new : LanesValue D G C) (read : Result Request RequestFault) (said : List ℕ)
       → Answers outside old read said new → GoOn old new
   answer old new (Err fault) said answers = none old new answers.1
   answer old new (Ok request) said (today, served, spoken, day, serves, says, drains) =
-      both old served new (serve today request.what old served spoken serves) (drain today _ _ served new drains)
+      both old served new (serve today request.what old served spoken serves)
+      (drain today _ _ served new drains)
 
   answer_part : (old new : LanesValue D G C) (read : Result Request RequestFault) (said : List ℕ)
       → AnswersPart outside old read said new → GoOn old new
@@ -164,9 +178,11 @@ module _ {D G C : Type 0} (outside : Outside D G C) where
 
   given_up : (bytes said : List ℕ) (first last : LanesValue D G C)
       → IsGivenUp (lanes_machine outside) first bytes said last → GoOn first last
-  given_up bytes said first last is = both first is.middle last (run _ first is.middle is.answers is.ran) (by_left is.left)
+  given_up bytes said first last is = both first is.middle last (run _ first is.middle is.answers is.ran)
+      (by_left is.left)
     where
-      by_left : ((is.said ≡ []) × (last ≡ is.middle)) ⊎ CutsFirst (lanes_machine outside) is.middle is.unread is.said last
+      by_left : ((is.said ≡ []) × (last ≡ is.middle)) ⊎ CutsFirst (lanes_machine outside) is.middle
+          is.unread is.said last
           → GoOn is.middle last
       by_left (inl same) = none is.middle last same.1
       by_left (inr cuts) = cut is.unread is.middle last is.said cuts

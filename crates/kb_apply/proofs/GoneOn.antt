@@ -1,5 +1,6 @@
 -- One of some lanes goes on.
-use Rattle.std.proofs.Common.{◌≡◌, ◌<◌, ℕ, zero, suc, List, [], ◌∷◌, length, get_or, set, Some, arith, refl, sym, ap, subst}
+use Rattle.std.proofs.Common.{◌≡◌, ◌<◌, ℕ, zero, suc, List, [], ◌∷◌, length, get_or, set, Some, arith, refl}
+use Rattle.std.proofs.Common.{sym, ap, subst}
 use Rattle.std.specs.List.{slice_get}
 use Rattle.kb_apply.specs.LaneRuns.{GoesAt}
 
@@ -13,7 +14,14 @@ found_at (first ∷ later) (suc place) item inside is = found_at later place ite
 pub goes_at : {L : Type 0} (Goes : L → L → Type 0) (items : List L) (place : ℕ) (item next : L)
     → place < length items → item ≡ get_or items place item → Goes item next
     → GoesAt Goes place items (set items place next)
-goes_at Goes items place item next inside is goes = (item, next, found_at items place item inside is, refl, goes)
+goes_at Goes items place item next inside is goes = (
+  item,
+  next,
+  found_at items place item inside
+      is,
+  refl,
+  goes,
+)
 
 -- the item that is read at a place is found where it is wanted
 pub lane_there : {L : Type 0} (items : List L) (place : ℕ) (item : L) (wanted : ℕ) → place < length items

@@ -1,10 +1,12 @@
 -- What is done by one lane after another.
-use Rattle.std.proofs.Common.{◌≡◌, ℕ, zero, suc, ◌+◌, ◌-◌, ◌<◌, ◌≤◌, arith, true, false, inl, inr, refl, sym, subst}
+use Rattle.std.proofs.Common.{◌≡◌, ℕ, zero, suc, ◌+◌, ◌-◌, ◌<◌, ◌≤◌, arith, true, false, inl, inr, refl, sym}
+use Rattle.std.proofs.Common.{subst}
 use Rattle.kb_codec.specs.declared.command.Command.{Command}
 use Rattle.kb_reply.specs.declared.reply.LaneReply.{LaneReply}
 use Rattle.kb_reply.specs.declared.step.Step.{Step}
 use Rattle.kb_reply.specs.declared.step.Step.TheVariants as steps
-use Rattle.kb_apply.specs.LaneRuns.{Outside, LanesValue, is_taken_text, PerformsAt, TextFrom, LooksUpAt, LookUpFrom}
+use Rattle.kb_apply.specs.LaneRuns.{Outside, LanesValue, is_taken_text, PerformsAt, TextFrom, LooksUpAt}
+use Rattle.kb_apply.specs.LaneRuns.{LookUpFrom}
 use Rattle.kb_apply.specs.LaneRuns.{DrainsAt, DrainFrom, DrainPart}
 
 -- one place less is left
@@ -21,7 +23,8 @@ module _ {D G C : Type 0} (outside : Outside D G C) (today place last : ℕ) whe
         → PerformsAt outside today command place now new reply → is_taken_text reply ≡ false
         → TextFrom outside today command place (last - place) now new reply
     text_ends inside new reply performs untaken =
-        subst (λ more. TextFrom outside today command place more now new reply) (sym (left-one place last inside))
+        subst (λ more. TextFrom outside today command place more now new reply)
+        (sym (left-one place last inside))
         (inl (performs, untaken))
 
     -- it takes it, and the next one is given it
@@ -31,7 +34,8 @@ module _ {D G C : Type 0} (outside : Outside D G C) (today place last : ℕ) whe
         → TextFrom outside today command (place + 1) (last - (place + 1)) next new reply
         → TextFrom outside today command place (last - place) now new reply
     text_goes_on inside next first performs taken new reply later =
-        subst (λ more. TextFrom outside today command place more now new reply) (sym (left-one place last inside))
+        subst (λ more. TextFrom outside today command place more now new reply)
+        (sym (left-one place last inside))
         (inr (next, first, performs, taken, later))
 
     -- it is the last one
@@ -39,7 +43,8 @@ module _ {D G C : Type 0} (outside : Outside D G C) (today place last : ℕ) whe
         → PerformsAt outside today command place now new reply
         → TextFrom outside today command place (last - place) now new reply
     text_last end new reply performs =
-        subst (λ more. TextFrom outside today command place more now new reply) (sym (left-none place last end)) performs
+        subst (λ more. TextFrom outside today command place more now new reply)
+        (sym (left-none place last end)) performs
 
   module _ (now : LanesValue D G C) where
     pub look_up_ends : place < last → (new : LanesValue D G C) (step : Step)
@@ -49,7 +54,8 @@ module _ {D G C : Type 0} (outside : Outside D G C) (today place last : ℕ) whe
         subst (λ more. LookUpFrom outside today place more now new step) (sym (left-one place last inside))
         (inl (looks, undone))
 
-    pub look_up_goes_on : place < last → (next : LanesValue D G C) → LooksUpAt outside today place now next steps.Done
+    pub look_up_goes_on : place < last → (next : LanesValue D G C)
+        → LooksUpAt outside today place now next steps.Done
         → (new : LanesValue D G C) (step : Step)
         → LookUpFrom outside today (place + 1) (last - (place + 1)) next new step
         → LookUpFrom outside today place (last - place) now new step
@@ -59,7 +65,8 @@ module _ {D G C : Type 0} (outside : Outside D G C) (today place last : ℕ) whe
 
     pub none_left : last ≤ place → LookUpFrom outside today place (last - place) now now steps.Done
     none_left end =
-        subst (λ more. LookUpFrom outside today place more now now steps.Done) (sym (left-none place last end)) (refl, refl)
+        subst (λ more. LookUpFrom outside today place more now now steps.Done)
+        (sym (left-none place last end)) (refl, refl)
 
     pub drain_goes_on : place < last → (next : LanesValue D G C) (step : Step)
         → DrainsAt outside today place now next step → (step ≡ steps.NoMemory → ⊥) → (new : LanesValue D G C)
@@ -78,7 +85,8 @@ module _ {D G C : Type 0} (outside : Outside D G C) (today place last : ℕ) whe
         (inr (next, step, drains, later))
 
     pub all_drained : last ≤ place → DrainFrom outside today place (last - place) now now
-    all_drained end = subst (λ more. DrainFrom outside today place more now now) (sym (left-none place last end)) refl
+    all_drained end = subst (λ more. DrainFrom outside today place more now now)
+        (sym (left-none place last end)) refl
 
 -- a part of a drain may end anywhere
 pub part_ends : {D G C : Type 0} (outside : Outside D G C) (today place more : ℕ) (now : LanesValue D G C)

@@ -1,5 +1,6 @@
 -- What is said, and what a query is shown.
-use Rattle.std.proofs.Common.{◌≡◌, ◌++◌, ◌∷◌, [], ℕ, List, Some, Result, Ok, Err, false, OnOk, OnErr, refl, sym, ap, subst, inl, inr}
+use Rattle.std.proofs.Common.{◌≡◌, ◌++◌, ◌∷◌, [], ℕ, List, Some, Result, Ok, Err, false, OnOk, OnErr, refl}
+use Rattle.std.proofs.Common.{sym, ap, subst, inl, inr}
 use Rattle.json.specs.Print.{print_from, escape_byte}
 use Rattle.kb_base.specs.Lines.{line_feed}
 use Rattle.kb_request.specs.declared.fault.RequestFault.TheVariants as faults
@@ -29,7 +30,8 @@ memory_text = refl
 pub says_text : (spoken : Said) (text : List ℕ) → text ≡ say spoken → Says spoken (text ++ line_feed ∷ [])
 says_text spoken text is = inl (ap (λ it. it ++ line_feed ∷ []) is)
 
-pub says_memory : (spoken : Said) → tells_change spoken ≡ false → Says spoken (MEMORY_TEXT.now ++ line_feed ∷ [])
+pub says_memory : (spoken : Said) → tells_change spoken ≡ false
+    → Says spoken (MEMORY_TEXT.now ++ line_feed ∷ [])
 says_memory spoken none = inr (none, ap (λ it. it ++ line_feed ∷ []) memory_text)
 
 -- what a query is shown: a view, a refusal, or that memory ran out

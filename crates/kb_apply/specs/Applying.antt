@@ -12,16 +12,16 @@ use Rattle.kb_apply.specs.LaneRuns.{LanesValue}
 abbrev pub any_stopped : {D G : Type 0} → List (LaneValue D G) → Bool
 any_stopped lanes = list_any (λ lane. lane.log.journal.stopped) lanes
 
--- How lanes are left whose input was read to its end: an append failed on one; or none did, and one had no room; or
--- neither.
+-- How lanes are left whose input was read to its end: an append failed on one; or none did, and one had no
+-- room; or neither.
 abbrev pub IsOutcome : {D G C : Type 0} → LanesValue D G C → Result (Unit {0}) ApplyStop → Type 0
 IsOutcome lanes (Ok done) = (any_stopped lanes.lanes ≡ false) × (lanes.full ≡ false)
 IsOutcome lanes (Err Disk) = any_stopped lanes.lanes ≡ true
 IsOutcome lanes (Err Full) = (any_stopped lanes.lanes ≡ false) × (lanes.full ≡ true)
 IsOutcome lanes (Err (Run stop)) = ⊥
 
--- A run from first lanes to last ones, by its outcome: stopped on the way; or the input was read to its end, and each
--- of its lines was answered.
+-- A run from first lanes to last ones, by its outcome: stopped on the way; or the input was read to its
+-- end, and each of its lines was answered.
 abbrev pub Applies : {D G C : Type 0} → Machine (LanesValue D G C) (List ℕ) → LanesValue D G C → Known → Known
     → Known → Known → LanesValue D G C → Result (Unit {0}) ApplyStop → Type 0
 Applies machine first left left_after written written_after last (Err (Run stop)) =

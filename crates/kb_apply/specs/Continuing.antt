@@ -4,9 +4,10 @@ use Rattle.std.specs.List.{slice_get}
 use Rattle.kb_lane.specs.Lanes.{LaneValue, StaysItself}
 use Rattle.kb_lane.specs.Going.{GoesWell}
 
--- What a lane keeps in each call: its history goes on; at each moment, each image of its disk stands for what it may;
--- and it stays the lane that it is.
-pub record Continues {D G : Type 0} (honest : D → Bool) (moment : D → ℕ) (left_since : D → ℕ → List ℕ → Type 0)
+-- What a lane keeps in each call: its history goes on; at each moment, each image of its disk stands for
+-- what it may; and it stays the lane that it is.
+pub record Continues {D G : Type 0} (honest : D → Bool) (moment : D → ℕ)
+    (left_since : D → ℕ → List ℕ → Type 0)
     (fault_count : D → ℕ) (old new : LaneValue D G) : Type 0 where
   pub well : GoesWell honest moment left_since old.log new.log
   pub itself : StaysItself honest fault_count old new

@@ -1,5 +1,6 @@
 -- Lanes that answer lines: what each line does to them, and what is said.
-use Rattle.std.specs.Prelude.{ℕ, zero, suc, ◌+◌, ◌-◌, ◌≡◌, ◌≤◌, ◌⊎◌, ◌||◌, Bool, true, false, List, [], ◌∷◌, ◌++◌, length, set, slice_get, Option, Some, None}
+use Rattle.std.specs.Prelude.{ℕ, zero, suc, ◌+◌, ◌-◌, ◌≡◌, ◌≤◌, ◌⊎◌, ◌||◌, Bool, true, false, List, [], ◌∷◌}
+use Rattle.std.specs.Prelude.{◌++◌, length, set, slice_get, Option, Some, None}
 use Rattle.std.specs.Prelude.{Result, Ok, Err, IfSome, if◌then◌else◌, ⊤, refl}
 use Rattle.kb_base.specs.Machine.{Machine}
 use Rattle.kb_base.specs.Lines.{line_feed}
@@ -34,9 +35,9 @@ use Rattle.kb_say.specs.declared.said.Said.{Said}
 use Rattle.kb_say.specs.declared.said.Said.TheVariants as says
 use Rattle.kb_say.specs.Answers.{say}
 
--- What is told of disks, gateways and a clock: whether a disk is honest, how many moments it had, what a crash since
--- one may leave, and how often it failed; what a gateway was asked and said, and how often it failed; and the day
--- that a clock gives, if it is always the same.
+-- What is told of disks, gateways and a clock: whether a disk is honest, how many moments it had, what a
+-- crash since one may leave, and how often it failed; what a gateway was asked and said, and how often it
+-- failed; and the day that a clock gives, if it is always the same.
 pub record Outside (D G C : Type 0) : Type 1 where
   pub honest : D → Bool
   pub moment : D → ℕ
@@ -87,7 +88,8 @@ is_taken_text (replies.States number) = true
 is_taken_text reply = false
 
 -- The lane at a place performs a command, and replies so.
-abbrev pub PerformsAt : {D G C : Type 0} → Outside D G C → ℕ → Command → ℕ → LanesValue D G C → LanesValue D G C
+abbrev pub PerformsAt : {D G C : Type 0} → Outside D G C → ℕ → Command → ℕ → LanesValue D G C
+    → LanesValue D G C
     → LaneReply → Type 0
 PerformsAt outside today command place old new reply =
     GoesAt (λ lane next. Performs outside.fault_count lane next today command reply
@@ -99,7 +101,8 @@ PerformsAt outside today command place old new reply =
 abbrev pub LooksUpAt : {D G C : Type 0} → Outside D G C → ℕ → ℕ → LanesValue D G C → LanesValue D G C → Step
     → Type 0
 LooksUpAt outside today place old new step =
-    GoesAt (λ lane next. LooksAllUp outside.fault_count outside.asked outside.said outside.faults today lane next step
+    GoesAt (λ lane next. LooksAllUp outside.fault_count outside.asked outside.said outside.faults today
+    lane next step
     × Continues outside.honest outside.moment outside.left_since outside.fault_count lane next)
     place old.lanes new.lanes
     × (new.clock ≡ old.clock) × (new.full ≡ (old.full || is_full_step step))
@@ -108,23 +111,27 @@ LooksUpAt outside today place old new step =
 abbrev pub DrainsAt : {D G C : Type 0} → Outside D G C → ℕ → ℕ → LanesValue D G C → LanesValue D G C → Step
     → Type 0
 DrainsAt outside today place old new step =
-    GoesAt (λ lane next. Drains outside.fault_count outside.asked outside.said outside.faults today lane next step
+    GoesAt (λ lane next. Drains outside.fault_count outside.asked outside.said outside.faults today
+    lane next step
     × Continues outside.honest outside.moment outside.left_since outside.fault_count lane next)
     place old.lanes new.lanes
     × (new.clock ≡ old.clock) × (new.full ≡ (old.full || is_full_step step))
 
--- A text goes to the lane at a place and to so many behind it, in order, up to the first that doesn't take it, whose
--- reply is given.
+-- A text goes to the lane at a place and to so many behind it, in order, up to the first that doesn't take
+-- it, whose reply is given.
 abbrev pub TextFrom : {D G C : Type 0} → Outside D G C → ℕ → Command → ℕ → ℕ → LanesValue D G C
     → LanesValue D G C → LaneReply → Type 0
 TextFrom outside today command place zero old new reply = PerformsAt outside today command place old new reply
 TextFrom outside today command place (suc more) old new reply =
     (PerformsAt outside today command place old new reply × (is_taken_text reply ≡ false))
-    ⊎ ((between : LanesValue _ _ _) × (first : LaneReply) × PerformsAt outside today command place old between first
+    ⊎ ((between : LanesValue _ _ _) × (first : LaneReply)
+    × PerformsAt outside today command place old between first
     × (is_taken_text first ≡ true) × TextFrom outside today command (place + 1) more between new reply)
 
--- So many lanes from a place on look their open payments up, in order, up to the first that isn't done with it.
-abbrev pub LookUpFrom : {D G C : Type 0} → Outside D G C → ℕ → ℕ → ℕ → LanesValue D G C → LanesValue D G C → Step
+-- So many lanes from a place on look their open payments up, in order, up to the first that isn't done with
+-- it.
+abbrev pub LookUpFrom : {D G C : Type 0} → Outside D G C → ℕ → ℕ → ℕ → LanesValue D G C → LanesValue D G C
+    → Step
     → Type 0
 LookUpFrom outside today place zero old new step = (new ≡ old) × (step ≡ steps.Done)
 LookUpFrom outside today place (suc more) old new step =
@@ -133,14 +140,16 @@ LookUpFrom outside today place (suc more) old new step =
     × LookUpFrom outside today (place + 1) more between new step)
 
 -- So many lanes from a place on are drained, in order, each with memory enough.
-abbrev pub DrainFrom : {D G C : Type 0} → Outside D G C → ℕ → ℕ → ℕ → LanesValue D G C → LanesValue D G C → Type 0
+abbrev pub DrainFrom : {D G C : Type 0} → Outside D G C → ℕ → ℕ → ℕ → LanesValue D G C → LanesValue D G C
+    → Type 0
 DrainFrom outside today place zero old new = new ≡ old
 DrainFrom outside today place (suc more) old new = (between : LanesValue _ _ _) × (step : Step)
     × DrainsAt outside today place old between step × (step ≡ steps.NoMemory → ⊥)
     × DrainFrom outside today (place + 1) more between new
 
 -- Some of them are, up to one that lacked memory or none.
-abbrev pub DrainPart : {D G C : Type 0} → Outside D G C → ℕ → ℕ → ℕ → LanesValue D G C → LanesValue D G C → Type 0
+abbrev pub DrainPart : {D G C : Type 0} → Outside D G C → ℕ → ℕ → ℕ → LanesValue D G C → LanesValue D G C
+    → Type 0
 DrainPart outside today place zero old new = new ≡ old
 DrainPart outside today place (suc more) old new = (new ≡ old)
     ⊎ ((between : LanesValue _ _ _) × (step : Step) × DrainsAt outside today place old between step
@@ -184,7 +193,8 @@ ServesCommand outside today command false old new reply =
 -- What a request does before anything is drained, and what is said to it.
 abbrev pub Serves : {D G C : Type 0} → Outside D G C → ℕ → What → LanesValue D G C → LanesValue D G C → Said
     → Type 0
-Serves outside today (whats.Command command) old new spoken = (reply : LaneReply) × (spoken ≡ says.Reply reply)
+Serves outside today (whats.Command command) old new spoken = (reply : LaneReply)
+    × (spoken ≡ says.Reply reply)
     × ServesCommand outside today command (is_text command) old new reply
 Serves outside today (whats.Query query) old new spoken =
     IsShownAt today query (lane_of (asked_account query) (length old.lanes)) old.lanes spoken × (new ≡ old)
@@ -203,8 +213,9 @@ tells_change other = false
 a_refusal_tells_none : tells_change (says.Reply (replies.Refused refusals.NoAccount)) ≡ false
 a_refusal_tells_none = refl
 
--- The line that says it: its text. If there is no memory for that, and what is said tells of no change, it may be the
--- text of want of memory. So it may if a text was taken by some lanes and then refused by the next.
+-- The line that says it: its text. If there is no memory for that, and what is said tells of no change, it
+-- may be the text of want of memory. So it may if a text was taken by some lanes and then refused by the
+-- next.
 abbrev pub Says : Said → List ℕ → Type 0
 Says spoken text = (text ≡ say spoken ++ line_feed ∷ [])
     ⊎ ((tells_change spoken ≡ false) × (text ≡ say (says.Fault faults.NoMemory) ++ line_feed ∷ []))
@@ -215,9 +226,10 @@ IsDayOf outside clock (Some named) today = today ≡ named
 IsDayOf outside clock None today = (first_day ≤ today) × (today ≤ last_day)
     × IfSome (outside.day clock) (λ told. today ≡ told)
 
--- What a line does, once it is read: a fault is said, and a request is served on its day and said, and then the
--- outboxes of the lanes that it is on are drained.
-abbrev pub Answers : {D G C : Type 0} → Outside D G C → LanesValue D G C → Result Request RequestFault → List ℕ
+-- What a line does, once it is read: a fault is said, and a request is served on its day and said, and then
+-- the outboxes of the lanes that it is on are drained.
+abbrev pub Answers : {D G C : Type 0} → Outside D G C → LanesValue D G C → Result Request RequestFault
+    → List ℕ
     → LanesValue D G C → Type 0
 Answers outside old (Err fault) text new = Says (says.Fault fault) text × (new ≡ old)
 Answers outside old (Ok request) text new = (today : ℕ) × (served : LanesValue _ _ _) × (spoken : Said)
@@ -230,9 +242,11 @@ Answers outside old (Ok request) text new = (today : ℕ) × (served : LanesValu
 abbrev pub IsPartOf : List ℕ → List ℕ → Type 0
 IsPartOf part text = (rest : List ℕ) × (text ≡ part ++ rest)
 
-abbrev pub AnswersPart : {D G C : Type 0} → Outside D G C → LanesValue D G C → Result Request RequestFault → List ℕ
+abbrev pub AnswersPart : {D G C : Type 0} → Outside D G C → LanesValue D G C → Result Request RequestFault
+    → List ℕ
     → LanesValue D G C → Type 0
-AnswersPart outside old (Err fault) part new = ((text : List ℕ) × Says (says.Fault fault) text × IsPartOf part text)
+AnswersPart outside old (Err fault) part new = ((text : List ℕ) × Says (says.Fault fault) text
+    × IsPartOf part text)
     × (new ≡ old)
 AnswersPart outside old (Ok request) part new = (today : ℕ) × (served : LanesValue _ _ _) × (spoken : Said)
     × IsDayOf outside old.clock request.today today × Serves outside today request.what old served spoken

@@ -29,15 +29,16 @@ pub enum ApplyStop {
     Full,
 }
 
-/// Answers the lines of a source by the lanes, one after another, until the input ends. A lane whose append failed,
-/// or that is full, doesn't end the run: what it can't do is answered so.
+/// Answers the lines of a source by the lanes, one after another, until the input ends. A lane whose append
+/// failed, or that is full, doesn't end the run: what it can't do is answered so.
 pub fn apply_lanes<D: Disk, G: Gateway + Drop, C: Clock + Drop, I: Source, O: Sink>(
     alloc: Global,
     lanes: &mut Lanes<D, G, C>,
     input: &mut I,
     output: &mut O,
 ) -> Result<(), ApplyStop>
-    ensures applied { Applies (lanes_machine (outside_of D.honest D.moment D.left_since D.fault_count G.asked G.said
+    ensures applied { Applies (lanes_machine (outside_of D.honest D.moment D.left_since D.fault_count
+        G.asked G.said
         G.faults C.day)) lanes.old (I.left input.old) (I.left input.new) (O.written output.old)
         (O.written output.new) lanes.new result }
     ensures input_fault { result ≡ Err (Run Input) → Rose (I.faults input.old) (I.faults input.new) }

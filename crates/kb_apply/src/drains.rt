@@ -26,9 +26,11 @@ impl<D: Disk, G: Gateway + Drop, C: Clock + Drop> Lanes<D, G, C> {
         count: usize,
     ) -> Result<(), NoMemory>
         requires within { first + count ≤ length self.old.lanes }
-        ensures ok { OnOk result (DrainFrom (outside_of D.honest D.moment D.left_since D.fault_count G.asked G.said G.faults C.day) today first
+        ensures ok { OnOk result (DrainFrom (outside_of D.honest D.moment D.left_since D.fault_count G.asked
+            G.said G.faults C.day) today first
             count self.old self.new) }
-        ensures err { OnErr result (DrainPart (outside_of D.honest D.moment D.left_since D.fault_count G.asked G.said G.faults C.day) today first
+        ensures err { OnErr result (DrainPart (outside_of D.honest D.moment D.left_since D.fault_count G.asked
+            G.said G.faults C.day) today first
             count self.old self.new) }
     {
         let _ = self.count();
@@ -44,7 +46,8 @@ impl<D: Disk, G: Gateway + Drop, C: Clock + Drop> Lanes<D, G, C> {
     /// Drains the lane at a place.
     fn drain_at(&mut self, alloc: Global, today: Day, place: usize) -> Step
         requires within { place < length self.old.lanes }
-        ensures drained { DrainsAt (outside_of D.honest D.moment D.left_since D.fault_count G.asked G.said G.faults C.day) today place
+        ensures drained { DrainsAt (outside_of D.honest D.moment D.left_since D.fault_count G.asked G.said
+            G.faults C.day) today place
             self.old self.new result }
         ensures count { length self.new.lanes ≡ length self.old.lanes }
     {
@@ -63,7 +66,8 @@ fn drain_in<D: Disk, G: Gateway + Drop>(
 ) -> Step
     requires within { place < length lanes.old.items }
     ensures drained { GoesAt (λ lane next. Drains D.fault_count G.asked G.said G.faults today lane next result
-        × Continues D.honest D.moment D.left_since D.fault_count lane next) place lanes.old.items lanes.new.items }
+        × Continues D.honest D.moment D.left_since D.fault_count lane next) place lanes.old.items
+        lanes.new.items }
     ensures count { length lanes.new.items ≡ length lanes.old.items }
 {
     drain(&mut lanes[place], alloc, today)

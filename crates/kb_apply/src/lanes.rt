@@ -4,7 +4,8 @@ ghost use Rattle.kb_machine.specs.Machines.{is_callers};
 ghost use Rattle.kb_lane.specs.Replies.{Performs};
 ghost use Rattle.kb_desk.specs.Lanes.{lane_of};
 ghost use Rattle.kb_apply.specs.Continuing.{Continues};
-ghost use Rattle.kb_apply.specs.LaneRuns.{outside_of, is_full_reply, is_full_step, GoesAt, IsDayOf, PerformsAt};
+ghost use Rattle.kb_apply.specs.LaneRuns.{outside_of, is_full_reply, is_full_step, GoesAt, IsDayOf};
+ghost use Rattle.kb_apply.specs.LaneRuns.{PerformsAt};
 
 use kb_clock::Clock;
 use kb_codec::Command;
@@ -17,8 +18,8 @@ use kb_reply::{LaneReply, Step};
 use std::alloc::Global;
 use std::marker::Model;
 
-/// Lanes, numbered from 0, with the clock that gives the day of a line that names none. There is at least one lane,
-/// and there are at most 64.
+/// Lanes, numbered from 0, with the clock that gives the day of a line that names none. There is at least
+/// one lane, and there are at most 64.
 #[derive(Drop)]
 pub struct Lanes<D: Disk, G: Gateway + Drop, C: Clock + Drop> {
     pub(crate) lanes: Vec<Lane<D, G>>,
@@ -84,7 +85,8 @@ impl<D: Disk, G: Gateway + Drop, C: Clock + Drop> Lanes<D, G, C> {
 
     /// The day of a request: the one that it names, or today by the clock.
     pub(crate) fn day_of(&self, named: Option<Day>) -> Day
-        ensures { IsDayOf (outside_of D.honest D.moment D.left_since D.fault_count G.asked G.said G.faults C.day) self.now.clock named result }
+        ensures { IsDayOf (outside_of D.honest D.moment D.left_since D.fault_count G.asked G.said G.faults
+            C.day) self.now.clock named result }
     {
         match named {
             Some(day) => day,
@@ -102,7 +104,8 @@ impl<D: Disk, G: Gateway + Drop, C: Clock + Drop> Lanes<D, G, C> {
     ) -> LaneReply
         requires callers { is_callers command.now ≡ true }
         requires within { place < length self.old.lanes }
-        ensures performed { PerformsAt (outside_of D.honest D.moment D.left_since D.fault_count G.asked G.said G.faults C.day) today command.now place self.old self.new result }
+        ensures performed { PerformsAt (outside_of D.honest D.moment D.left_since D.fault_count G.asked G.said
+            G.faults C.day) today command.now place self.old self.new result }
         ensures count { length self.new.lanes ≡ length self.old.lanes }
     {
         let reply = perform_in(&mut self.lanes, alloc, today, command, place);
@@ -122,7 +125,8 @@ fn perform_in<D: Disk, G: Gateway + Drop>(
     requires callers { is_callers command.now ≡ true }
     requires within { place < length lanes.old.items }
     ensures performed { GoesAt (λ lane next. Performs D.fault_count lane next today command.now result
-        × Continues D.honest D.moment D.left_since D.fault_count lane next) place lanes.old.items lanes.new.items }
+        × Continues D.honest D.moment D.left_since D.fault_count lane next) place lanes.old.items
+        lanes.new.items }
     ensures count { length lanes.new.items ≡ length lanes.old.items }
 {
     lanes[place].perform(alloc, today, command)

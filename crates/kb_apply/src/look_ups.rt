@@ -15,10 +15,11 @@ use kb_reply::Step;
 use std::alloc::Global;
 
 impl<D: Disk, G: Gateway + Drop, C: Clock + Drop> Lanes<D, G, C> {
-    /// Has the lanes look their open payments up, in order, up to the first that isn't done with it, and gives the
-    /// last step.
+    /// Has the lanes look their open payments up, in order, up to the first that isn't done with it, and
+    /// gives the last step.
     pub(crate) fn look_up_all(&mut self, alloc: Global, today: Day) -> Step
-        ensures looked { LookUpFrom (outside_of D.honest D.moment D.left_since D.fault_count G.asked G.said G.faults C.day) today 0
+        ensures looked { LookUpFrom (outside_of D.honest D.moment D.left_since D.fault_count G.asked G.said
+            G.faults C.day) today 0
             (length self.old.lanes) self.old self.new result }
         ensures count { length self.new.lanes ≡ length self.old.lanes }
     {
@@ -35,7 +36,8 @@ impl<D: Disk, G: Gateway + Drop, C: Clock + Drop> Lanes<D, G, C> {
     /// Has the lane at a place look its open payments up.
     fn look_up_at(&mut self, alloc: Global, today: Day, place: usize) -> Step
         requires within { place < length self.old.lanes }
-        ensures looked { LooksUpAt (outside_of D.honest D.moment D.left_since D.fault_count G.asked G.said G.faults C.day) today place
+        ensures looked { LooksUpAt (outside_of D.honest D.moment D.left_since D.fault_count G.asked G.said
+            G.faults C.day) today place
             self.old self.new result }
         ensures count { length self.new.lanes ≡ length self.old.lanes }
     {
@@ -55,7 +57,8 @@ fn look_up_in<D: Disk, G: Gateway + Drop>(
     requires within { place < length lanes.old.items }
     ensures looked { GoesAt
         (λ lane next. LooksAllUp D.fault_count G.asked G.said G.faults today lane next result
-        × Continues D.honest D.moment D.left_since D.fault_count lane next) place lanes.old.items lanes.new.items }
+        × Continues D.honest D.moment D.left_since D.fault_count lane next) place lanes.old.items
+        lanes.new.items }
     ensures count { length lanes.new.items ≡ length lanes.old.items }
 {
     lanes[place].janitor(alloc, today)

@@ -10,17 +10,20 @@ use std::alloc::Global;
 
 /// Says something, as a line, and lets it go.
 pub fn tell(alloc: Global, spoken: Said, said: &mut Vec<u8>) -> Result<(), NoMemory>
-    ensures ok { OnOk result ((text : List ℕ) × (said.new.items ≡ said.old.items ++ text) × Says spoken text) }
+    ensures ok { OnOk result ((text : List ℕ) × (said.new.items ≡ said.old.items ++ text)
+        × Says spoken text) }
     ensures err { OnErr result ((part : List ℕ) × (said.new.items ≡ said.old.items ++ part)
         × ((text : List ℕ) × Says spoken text × IsPartOf part text)) }
 {
     say(alloc, &spoken, said)
 }
 
-/// Says something, as a line. Where there is no memory for its text, the line says that memory ran out, unless it
-/// would have told of something that was written down; out of memory for that too, a part of it is said.
+/// Says something, as a line. Where there is no memory for its text, the line says that memory ran out,
+/// unless it would have told of something that was written down; out of memory for that too, a part of it
+/// is said.
 fn say(alloc: Global, spoken: &Said, said: &mut Vec<u8>) -> Result<(), NoMemory>
-    ensures ok { OnOk result ((text : List ℕ) × (said.new.items ≡ said.old.items ++ text) × Says spoken.now text) }
+    ensures ok { OnOk result ((text : List ℕ) × (said.new.items ≡ said.old.items ++ text)
+        × Says spoken.now text) }
     ensures err { OnErr result ((part : List ℕ) × (said.new.items ≡ said.old.items ++ part)
         × ((text : List ℕ) × Says spoken.now text × IsPartOf part text)) }
 {
@@ -32,7 +35,8 @@ fn say(alloc: Global, spoken: &Said, said: &mut Vec<u8>) -> Result<(), NoMemory>
 
 /// Says that memory ran out, in place of something that tells of nothing written down.
 fn say_memory(spoken: &Said, said: &mut Vec<u8>) -> Result<(), NoMemory>
-    ensures ok { OnOk result ((text : List ℕ) × (said.new.items ≡ said.old.items ++ text) × Says spoken.now text) }
+    ensures ok { OnOk result ((text : List ℕ) × (said.new.items ≡ said.old.items ++ text)
+        × Says spoken.now text) }
     ensures err { OnErr result ((part : List ℕ) × (said.new.items ≡ said.old.items ++ part)
         × ((text : List ℕ) × Says spoken.now text × IsPartOf part text)) }
 {

@@ -13,8 +13,8 @@ use kb_reply::LaneReply;
 use std::alloc::Global;
 
 impl<D: Disk, G: Gateway + Drop, C: Clock + Drop> Lanes<D, G, C> {
-    /// Gives a text to the lanes, in order, up to the first that doesn't take it, and gives the last reply. A text
-    /// that reached some lanes alone is finished by sending it again with its key.
+    /// Gives a text to the lanes, in order, up to the first that doesn't take it, and gives the last reply.
+    /// A text that reached some lanes alone is finished by sending it again with its key.
     pub(crate) fn perform_on_all(
         &mut self,
         alloc: Global,
@@ -22,7 +22,8 @@ impl<D: Disk, G: Gateway + Drop, C: Clock + Drop> Lanes<D, G, C> {
         command: &Command,
     ) -> LaneReply
         requires callers { is_callers command.now ≡ true }
-        ensures performed { TextFrom (outside_of D.honest D.moment D.left_since D.fault_count G.asked G.said G.faults C.day) today
+        ensures performed { TextFrom (outside_of D.honest D.moment D.left_since D.fault_count G.asked G.said
+            G.faults C.day) today
             command.now 0 (length self.old.lanes - 1) self.old self.new result }
         ensures count { length self.new.lanes ≡ length self.old.lanes }
     {

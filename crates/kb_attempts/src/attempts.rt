@@ -10,8 +10,8 @@ pub fn attempts_stay()
     ensures for_good { FinalAttemptsStay }
 {}
 
-/// A new settlement gives its attempt its status, and leaves every other one as it is. One of an open attempt to
-/// another status is new.
+/// A new settlement gives its attempt its status, and leaves every other one as it is. One of an open
+/// attempt to another status is new.
 pub fn settlements_settle()
     ensures settled { SettlementsSettle }
     ensures new { SettlementsAreNew }

@@ -25,13 +25,15 @@ lines_of-length sub recurring cells (item ∷ later) =
     let rest = lines_of-length sub recurring cells later in omega (arith, rest)
 
 -- the lines of two lists of items, one after the other, are as many as these
-pub lines-length : (lines front both : List Line) (sub : ℕ) (one other : Bool) (cells others : ℕ → Option Cell)
+pub lines-length : (lines front both : List Line) (sub : ℕ) (one other : Bool)
+    (cells others : ℕ → Option Cell)
     (fees fees_seen charges charges_seen : List NewItem)
     → lines ≡ [] → fees_seen ≡ fees → charges_seen ≡ charges
     → front ≡ lines ++ lines_of sub one cells fees_seen
     → both ≡ front ++ lines_of sub other others charges_seen
     → length both ≡ length fees + length charges
-lines-length lines front both sub one other cells others fees fees_seen charges charges_seen none fee charge first second =
+lines-length lines front both sub one other cells others fees fees_seen charges charges_seen none fee charge
+    first second =
     omega (
       arith,
       ap length none,
@@ -67,7 +69,8 @@ both_issues-assoc one two three =
 issue_from-step : (facts : FactsValue) (billed : Option ℕ) (first sub : ℕ) (items : SubscriptionItems)
     (later : List SubscriptionItems) (lines more : List Line) (done next : List SubscriptionItems)
     → record { lines = more; charges = next }
-    ≡ items_due (fee_at facts sub billed) (due_at facts sub billed) first_day charged_days (first + length lines) sub
+    ≡ items_due (fee_at facts sub billed) (due_at facts sub billed) first_day charged_days
+    (first + length lines) sub
     items
     → both_issues (record { lines = lines ++ more; charges = done ++ next })
     (issue_from facts billed first_day charged_days (first + length (lines ++ more)) (sub + 1) later)
@@ -90,19 +93,23 @@ pub issue_from-more : (facts : FactsValue) (billed : Option ℕ) (first sub plac
     → sub < length charges → items ≡ get_or charges sub items → place ≡ sub → number ≡ length lines
     → all_lines ≡ lines ++ more → all ≡ done ++ next
     → record { lines = more; charges = next }
-    ≡ items_due (fee_at facts place billed) (due_at facts place billed) first_day charged_days (first + number) place
+    ≡ items_due (fee_at facts place billed) (due_at facts place billed) first_day charged_days
+    (first + number) place
     items
     → both_issues (record { lines = all_lines; charges = all })
-    (issue_from facts billed first_day charged_days (first + length all_lines) (sub + 1) (drop (sub + 1) charges))
+    (issue_from facts billed first_day charged_days (first + length all_lines) (sub + 1)
+    (drop (sub + 1) charges))
     ≡ both_issues (record { lines = lines; charges = done })
     (issue_from facts billed first_day charged_days (first + length lines) sub (drop sub charges))
-issue_from-more facts billed first sub place number charges items lines more all_lines done next all low one here from
+issue_from-more facts billed first sub place number charges items lines more all_lines done next all
+    low one here from
     lines_are all_are is =
     let issue : ℕ → ℕ → Issue = λ at n.
     items_due (fee_at facts at billed) (due_at facts at billed) first_day charged_days (first + n) at items in
     let rest : ℕ → Issue =
     λ n. issue_from facts billed first_day charged_days (first + n) (sub + 1) (drop (sub + 1) charges) in
-    ap₂ (λ (l : List Line) (c : List SubscriptionItems). both_issues (record { lines = l; charges = c }) (rest (length l)))
+    ap₂ (λ (l : List Line) (c : List SubscriptionItems). both_issues (record { lines = l; charges = c })
+    (rest (length l)))
     lines_are all_are
     ∙ issue_from-step facts billed first sub items (drop (sub + 1) charges) lines more done next
     (is ∙ ap₂ issue here from)

@@ -8,7 +8,8 @@ use Rattle.kb_tree.specs.declared.item.NewItem.{NewItem}
 use Rattle.kb_book.specs.Issues.{line_of, lines_of}
 
 -- the line of an item behind some, and then those of the items that are left
-pub lines-pushed : (sub : ℕ) (recurring : Bool) (cells : ℕ → Option Cell) (items : List NewItem) (item : NewItem)
+pub lines-pushed : (sub : ℕ) (recurring : Bool) (cells : ℕ → Option Cell) (items : List NewItem)
+    (item : NewItem)
     (index : ℕ) (before after : List Line) (line : Line) → index < length items
     → item ≡ get_or items index item
     → after ≡ before ++ line ∷ [] → line ≡ line_of sub recurring cells item
@@ -19,4 +20,5 @@ lines-pushed sub recurring cells items item index before after line low is pushe
     ap (λ (lines : List Line). lines ++ later) pushed
     ∙ append_assoc before (line ∷ []) later
     ∙ ap (λ (first : Line). before ++ first ∷ later) made
-    ∙ ap (λ (rest : List NewItem). before ++ lines_of sub recurring cells rest) (sym (drop_one items index item low is))
+    ∙ ap (λ (rest : List NewItem). before ++ lines_of sub recurring cells rest)
+    (sym (drop_one items index item low is))

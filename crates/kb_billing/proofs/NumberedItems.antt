@@ -61,7 +61,8 @@ new_items-few charges due day count =
     let missing = λ (d : ℕ). missing_among (charges d) (due d) in
     omega (
       arith,
-      length-append (map repair_of (runs nat_eq wrong day count)) (map bill_of (runs same_cell missing day count)),
+      length-append (map repair_of (runs nat_eq wrong day count))
+          (map bill_of (runs same_cell missing day count)),
       length-map (runs nat_eq wrong day count) repair_of,
       length-map (runs same_cell missing day count) bill_of,
       runs-length nat_eq wrong day count,
@@ -81,9 +82,11 @@ pub new_items-due : (charges : ℕ → List Charge) (due same : ℕ → Option C
 unfolding new_repairs new_bills
 new_items-due charges due same day count agree =
     ap₂ (λ repairs bills. map repair_of repairs ++ map bill_of bills)
-    (runs-same-key nat_eq (λ d. wrong_among (charges d) (due d)) (λ d. wrong_among (charges d) (same d)) day count
+    (runs-same-key nat_eq (λ d. wrong_among (charges d) (due d))
+    (λ d. wrong_among (charges d) (same d)) day count
     (λ d low high. ap (wrong_among (charges d)) (agree d)))
-    (runs-same-key same_cell (λ d. missing_among (charges d) (due d)) (λ d. missing_among (charges d) (same d)) day
+    (runs-same-key same_cell (λ d. missing_among (charges d) (due d))
+    (λ d. missing_among (charges d) (same d)) day
     count
     (λ d low high. ap (missing_among (charges d)) (agree d)))
 

@@ -1,6 +1,8 @@
 -- The key of a bill is a name.
-use Rattle.std.proofs.Common.{◌≡◌, ℕ, zero, suc, EachIndex, slice_index, ◌+◌, ◌<◌, ◌≤◌, Bool, true, ◌&&◌, List, [], ◌∷◌, ◌++◌, length, codes}
-use Rattle.std.proofs.Common.{decimal, nat_lt, nat_le, IsTrue, refl, sym, ap, ap₂, subst, ◌∙◌, arith, length-append}
+use Rattle.std.proofs.Common.{◌≡◌, ℕ, zero, suc, EachIndex, slice_index, ◌+◌, ◌<◌, ◌≤◌, Bool, true, ◌&&◌}
+use Rattle.std.proofs.Common.{List, [], ◌∷◌, ◌++◌, length, codes}
+use Rattle.std.proofs.Common.{decimal, nat_lt, nat_le, IsTrue, refl, sym, ap, ap₂, subst, ◌∙◌, arith}
+use Rattle.std.proofs.Common.{length-append}
 use Rattle.std.proofs.lemmas.Bool.{and_parts}
 use Rattle.std.proofs.lemmas.Bool.Decides.{nat_tests}
 use Rattle.std.proofs.lemmas.Fmt.{decimal_digit}
@@ -76,7 +78,8 @@ module _ (day : ℕ) where
       first = let some : 0 < length (bill_key day) = omega (arith, size) in grind (arith, nat_tests, some)
 
       last : nat_le (length (bill_key day)) 64 ≡ true
-      last = let few : length (bill_key day) ≤ 64 = omega (arith, size, date-short) in grind (arith, nat_tests, few)
+      last = let few : length (bill_key day) ≤ 64 = omega (arith, size, date-short) in grind
+          (arith, nat_tests, few)
 
       all : list_all is_name_byte (bill_key day) ≡ true
       all =
@@ -84,4 +87,5 @@ module _ (day : ℕ) where
           list_all-append is_name_byte (codes "bill-") (date_text day) ∙ ap₂ (λ a b. a && b) prefix date-all
 
       named : IsName (bill_key day)
-      named = subst (λ (test : Bool). IsTrue test) (sym (ap₂ (λ a b. a && b) (ap₂ (λ a b. a && b) first last) all)) refl
+      named = subst (λ (test : Bool). IsTrue test) (sym
+          (ap₂ (λ a b. a && b) (ap₂ (λ a b. a && b) first last) all)) refl

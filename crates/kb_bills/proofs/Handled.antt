@@ -10,11 +10,13 @@ use Rattle.kb_lane.specs.declared.work.Work.{Work}
 use Rattle.kb_lane.specs.declared.work.Work.TheVariants.{Ask, Check}
 use Rattle.kb_lane.specs.Lanes.{LaneValue, StandsThroughout, machine_of}
 use Rattle.kb_lane.specs.Going.{GoesWell}
-use Rattle.kb_lane.specs.Draining.{due_of, settled_by, with_outbox, works_after, IsWritten, Looks, Asks, Orders}
+use Rattle.kb_lane.specs.Draining.{due_of, settled_by, with_outbox, works_after, IsWritten, Looks, Asks}
+use Rattle.kb_lane.specs.Draining.{Orders}
 use Rattle.kb_lane.proofs.Going.{well_none, well_writes, well_accepts}
 use Rattle.kb_bills.specs.Drains.{HandlesFront, EndsAfter}
 
-module _ {D G : Type 0} (fault_count : D → ℕ) (asked : G → Option (List Asked)) (said : G → Option (List Saying))
+module _ {D G : Type 0} (fault_count : D → ℕ) (asked : G → Option (List Asked))
+    (said : G → Option (List Saying))
     (faults : G → ℕ) (today : ℕ) (old new : LaneValue D G) (step : Step) where
   -- what is told of each kind of front tells of whichever stands there
   pub handles_front : (outbox : List Work) → old.outbox ≡ outbox
@@ -30,7 +32,8 @@ module _ {D G : Type 0} (fault_count : D → ℕ) (asked : G → Option (List As
 
   -- the log goes on well
   module _ (honest : D → Bool) (moment : D → ℕ) (left_since : D → ℕ → List ℕ → Type 0)
-      (lanes : new.log.journal.lanes ≡ old.log.journal.lanes) (lane : new.log.journal.lane ≡ old.log.journal.lane)
+      (lanes : new.log.journal.lanes ≡ old.log.journal.lanes)
+      (lane : new.log.journal.lane ≡ old.log.journal.lane)
       (moments : (other : Entry) → IsWritten old.log new.log other
       → StandsThroughout honest moment left_since old.log new.log other) where
     looks-well : (account : List ℕ) (later : List Work) (due : Option Command)
@@ -39,7 +42,8 @@ module _ {D G : Type 0} (fault_count : D → ℕ) (asked : G → Option (List As
     looks-well account later None looks =
         well_none honest moment left_since old.log new.log (ap (λ lane. lane.log) looks.1)
     looks-well account later (Some command) looks =
-        well_writes honest moment left_since fault_count (with_outbox old (works_after step (Check account) later))
+        well_writes honest moment left_since fault_count
+        (with_outbox old (works_after step (Check account) later))
         new (today, command) lanes lane step looks.0 moments
 
     asks-well : (account key : List ℕ) (later : List Work) (how : Step)
@@ -62,15 +66,17 @@ module _ {D G : Type 0} (fault_count : D → ℕ) (asked : G → Option (List As
     orders-well account key later (steps.Full commands size) orders =
         asks-well account key later (steps.Full commands size) orders
 
-    pub front_well : (outbox : List Work) → HandlesFront fault_count asked said faults today outbox old new step
+    pub front_well : (outbox : List Work) → HandlesFront fault_count asked said faults today
+        outbox old new step
         → GoesWell honest moment left_since old.log new.log
-    front_well [] handles = well_none honest moment left_since old.log new.log (ap (λ lane. lane.log) handles.1)
+    front_well [] handles = well_none honest moment left_since old.log new.log
+        (ap (λ lane. lane.log) handles.1)
     front_well (Check account ∷ later) handles =
         looks-well account later (due_of (machine_of old) today account) handles
     front_well (Ask account key ∷ later) handles = orders-well account key later step handles
 
--- What was handled so far, in no more steps than the work that it took off: whatever ends from here on ended from
--- the start on.
+-- What was handled so far, in no more steps than the work that it took off: whatever ends from here on
+-- ended from the start on.
 module _ {L : Type 0} (Steps : L → L → Step → Type 0) (work : L → ℕ) (start : L) where
   pub ended : (now new : L) (step : Step) (handled : ℕ) → handled + work now ≤ work start
       → ((more : ℕ) (new : L) (step : Step) → EndsAfter Steps more now new step

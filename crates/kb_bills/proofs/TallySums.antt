@@ -21,34 +21,118 @@ none_most most = record {
 -- a reply adds one at most
 pub reply_most : (reply : LaneReply) → IsAtMost 1 (of_reply reply)
 reply_most (replies.Accepted answer) =
-    record { accepted = omega arith; refused = omega arith; disk = omega arith; full = omega arith; memory = omega arith }
+    record {
+      accepted = omega arith;
+      refused = omega arith;
+      disk = omega arith;
+      full = omega arith;
+      memory =
+          omega arith;
+    }
 reply_most (replies.Version number) =
-    record { accepted = omega arith; refused = omega arith; disk = omega arith; full = omega arith; memory = omega arith }
+    record {
+      accepted = omega arith;
+      refused = omega arith;
+      disk = omega arith;
+      full = omega arith;
+      memory =
+          omega arith;
+    }
 reply_most (replies.States number) =
-    record { accepted = omega arith; refused = omega arith; disk = omega arith; full = omega arith; memory = omega arith }
+    record {
+      accepted = omega arith;
+      refused = omega arith;
+      disk = omega arith;
+      full = omega arith;
+      memory =
+          omega arith;
+    }
 reply_most (replies.Refused refusal) =
-    record { accepted = omega arith; refused = omega arith; disk = omega arith; full = omega arith; memory = omega arith }
+    record {
+      accepted = omega arith;
+      refused = omega arith;
+      disk = omega arith;
+      full = omega arith;
+      memory =
+          omega arith;
+    }
 reply_most replies.DiskFault =
-    record { accepted = omega arith; refused = omega arith; disk = omega arith; full = omega arith; memory = omega arith }
+    record {
+      accepted = omega arith;
+      refused = omega arith;
+      disk = omega arith;
+      full = omega arith;
+      memory =
+          omega arith;
+    }
 reply_most (replies.Stopped count) =
-    record { accepted = omega arith; refused = omega arith; disk = omega arith; full = omega arith; memory = omega arith }
+    record {
+      accepted = omega arith;
+      refused = omega arith;
+      disk = omega arith;
+      full = omega arith;
+      memory =
+          omega arith;
+    }
 reply_most (replies.Full commands size) =
-    record { accepted = omega arith; refused = omega arith; disk = omega arith; full = omega arith; memory = omega arith }
+    record {
+      accepted = omega arith;
+      refused = omega arith;
+      disk = omega arith;
+      full = omega arith;
+      memory =
+          omega arith;
+    }
 reply_most replies.NoMemory =
-    record { accepted = omega arith; refused = omega arith; disk = omega arith; full = omega arith; memory = omega arith }
+    record {
+      accepted = omega arith;
+      refused = omega arith;
+      disk = omega arith;
+      full = omega arith;
+      memory =
+          omega arith;
+    }
 
 -- and so does a step
 pub step_most : (step : Step) → IsAtMost 1 (of_step step)
 step_most steps.Idle = none_most 1
 step_most steps.Done = none_most 1
 step_most steps.DiskFault =
-    record { accepted = omega arith; refused = omega arith; disk = omega arith; full = omega arith; memory = omega arith }
+    record {
+      accepted = omega arith;
+      refused = omega arith;
+      disk = omega arith;
+      full = omega arith;
+      memory =
+          omega arith;
+    }
 step_most (steps.Stopped count) =
-    record { accepted = omega arith; refused = omega arith; disk = omega arith; full = omega arith; memory = omega arith }
+    record {
+      accepted = omega arith;
+      refused = omega arith;
+      disk = omega arith;
+      full = omega arith;
+      memory =
+          omega arith;
+    }
 step_most (steps.Full commands size) =
-    record { accepted = omega arith; refused = omega arith; disk = omega arith; full = omega arith; memory = omega arith }
+    record {
+      accepted = omega arith;
+      refused = omega arith;
+      disk = omega arith;
+      full = omega arith;
+      memory =
+          omega arith;
+    }
 step_most steps.NoMemory =
-    record { accepted = omega arith; refused = omega arith; disk = omega arith; full = omega arith; memory = omega arith }
+    record {
+      accepted = omega arith;
+      refused = omega arith;
+      disk = omega arith;
+      full = omega arith;
+      memory =
+          omega arith;
+    }
 
 pub plus_most : (most more : ℕ) (one other : Tally) → IsAtMost most one → IsAtMost more other
     → IsAtMost (most + more) (plus one other)

@@ -51,7 +51,8 @@ with_answer tally answer = plus (plus tally (of_reply answer.0)) (of_step answer
 abbrev pub tally_of : List Answer → Tally
 tally_of answers = fold with_answer no_tally answers
 
--- a bill that met a disk that failed, and what was left to do after it; then a refused one on the lane that has stopped
+-- a bill that met a disk that failed, and what was left to do after it; then a refused one on the lane that
+-- has stopped
 two_accounts : tally_of ((replies.DiskFault, steps.Stopped 4) ∷ (replies.Refused NoAccount, steps.Idle) ∷ [])
     ≡ record { accepted = 0; refused = 1; disk = 2; full = 0; memory = 0 }
 two_accounts = refl

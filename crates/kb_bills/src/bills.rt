@@ -19,9 +19,10 @@ use kb_lane::Lane;
 use kb_reply::{LaneReply, Step};
 use std::alloc::Global;
 
-/// Gives each account of a lane its bill of a day, on that day and by name, and after each handles the entries of
-/// the outbox up to a step that isn't `Done`. A fault ends no more than what met it: the accounts behind it are
-/// billed too. If memory runs out before the first bill, the lane is as it was, and `memory` is 1.
+/// Gives each account of a lane its bill of a day, on that day and by name, and after each handles the
+/// entries of the outbox up to a step that isn't `Done`. A fault ends no more than what met it: the
+/// accounts behind it are billed too. If memory runs out before the first bill, the lane is as it was, and
+/// `memory` is 1.
 pub fn bill<D: Disk, G: Gateway + Drop>(lane: &mut Lane<D, G>, alloc: Global, day: Day) -> Tally
     ensures billed { ((answers : List Answer) × (result ≡ tally_of answers)
         × BillsLane D.fault_count G.asked G.said G.faults day lane.old lane.new answers)

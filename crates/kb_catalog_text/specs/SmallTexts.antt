@@ -48,7 +48,11 @@ catalog_with product =
 -- what these examples unfold to compute
 small_version : catalog_read (catalog_with products) ≡ Ok small
 unfolding toml_on_literals is_utf8 chars text_read document_of
-    version_in product_in plan_in phase_in is_unlimited_in span_in length_in prices_in amounts_in list_in rules_in change_case_in plan_case_in create_in condition_in keys_read first_failing required optional read_or read_array read_table read_items name_in currency_in day_in word_in count_in amount_in format_in text_where number_in read_day named_day date_text civil_text month_of day_of_month month_after month_start month_length
+    version_in product_in plan_in phase_in is_unlimited_in span_in length_in prices_in amounts_in list_in
+    rules_in change_case_in plan_case_in create_in condition_in keys_read first_failing required optional
+    read_or read_array read_table read_items name_in currency_in day_in word_in count_in amount_in
+    format_in text_where number_in read_day named_day date_text civil_text month_of day_of_month
+    month_after month_start month_length
 small_version = refl
 
 unknown_colour : catalog_read (catalog_with (codes "product = [{name='Gold', category='BASE', colour=1}]"))

@@ -278,7 +278,11 @@ readers_sound = (
                                       kind_sound 18 parts.auto_pay parts.auto_pay_of auto_pay_is,
                                       (
                                         kind_sound 19 parts.settle parts.settle_of settle_is,
-                                        (kind_sound 20 parts.overdue_state parts.overdue_state_of overdue_state_is, tt),
+                                        (
+                                          kind_sound 20 parts.overdue_state parts.overdue_state_of
+                                              overdue_state_is,
+                                          tt,
+                                        ),
                                       ),
                                     ),
                                   ),

@@ -34,7 +34,8 @@ pub(crate) fn read_overdue_rules(
     alloc: Global,
     rest: &mut Rest<'_>,
 ) -> Result<Option<Command>, NoMemory>
-    ensures { IfOk result (λ found. Reads (into overdue_rules_of overdue_rules.read) rest.old found rest.new) }
+    ensures { IfOk result (λ found. Reads (into overdue_rules_of overdue_rules.read) rest.old
+        found rest.new) }
 {
     let Some(key) = rest.name() else {
         return Ok(None);

@@ -1,5 +1,5 @@
--- What an account asks for by itself takes at least as much off the work that it may yet ask for as it leaves to
--- do.
+-- What an account asks for by itself takes at least as much off the work that it may yet ask for as it
+-- leaves to do.
 use Rattle.std.specs.Prelude.{ℕ, ◌+◌, ◌≡◌, ◌≤◌, Bool, true, List, Some}
 use Rattle.kb_days.specs.Calendar.{last_day}
 use Rattle.kb_codec.specs.declared.command.Command.{Command}

@@ -42,7 +42,8 @@ module _ (stop : Stop) (status : ℕ) (written written_after : Option (List ℕ)
   pub closes-tells : Closes (Err stop) status written written_after → Tells status (Err stop)
   closes-tells (inl (inl (is, line))) = subst (λ s. Tells s (Err stop)) (sym is) (tells-own stop)
   closes-tells (inl (inr (is, part))) = subst (λ s. Tells s (Err stop)) (sym is) (tells-output stop)
-  closes-tells (inr (needs, inl (is, line))) = subst (λ s. Tells s (Err stop)) (sym is) (tells-memory stop needs)
+  closes-tells (inr (needs, inl (is, line))) = subst (λ s. Tells s (Err stop)) (sym is)
+      (tells-memory stop needs)
   closes-tells (inr (needs, inr (is, part))) = subst (λ s. Tells s (Err stop)) (sym is) (tells-output stop)
 
   -- it is that of some stop

@@ -141,11 +141,12 @@ EndsBy line own status written written_after =
 
 -- the program ended with this status as what stopped it has it, in its status and its last output line
 abbrev pub EndsAs : Stop → ℕ → Known → Known → Type 0
-EndsAs stop status written written_after = EndsBy (last_line stop) (stop_status stop) status written written_after
+EndsAs stop status written written_after = EndsBy (last_line stop) (stop_status stop) status
+    written written_after
 
 -- A run is closed with this status. One that wasn't stopped writes nothing more. One that was stopped ends
--- as what stopped it has it, or there was no memory to make its line, and it ends as any other that ran out of
--- memory.
+-- as what stopped it has it, or there was no memory to make its line, and it ends as any other that ran out
+-- of memory.
 abbrev pub Closes : Result (Unit {0}) Stop → ℕ → Known → Known → Type 0
 Closes (Ok done) status written written_after = (status ≡ 0) × (written_after ≡ written)
 Closes (Err stop) status written written_after =

@@ -1,5 +1,6 @@
 -- What a run over the lanes of a folder comes to, told of the whole folder.
-use Rattle.std.proofs.Common.{◌≡◌, ℕ, ◌+◌, ◌<◌, ◌≤◌, ◌&&◌, nat_lt, bytes_eq, Bool, true, false, List, Option, None, Some, IfSome, Result, Ok, Err, OnOk}
+use Rattle.std.proofs.Common.{◌≡◌, ℕ, ◌+◌, ◌<◌, ◌≤◌, ◌&&◌, nat_lt, bytes_eq, Bool, true, false, List, Option}
+use Rattle.std.proofs.Common.{None, Some, IfSome, Result, Ok, Err, OnOk}
 use Rattle.std.proofs.Common.{refl, subst, arith}
 use Rattle.std.proofs.Math.Path.{fun_ext}
 use Rattle.std.proofs.lemmas.Bool.Decides.{nat_tests}
@@ -9,7 +10,8 @@ use Rattle.kb_log.specs.Entries.{payloads}
 use Rattle.kb_vault.specs.Places.{SameLanes}
 use Rattle.kb_founding.specs.declared.fault.Unfounded.{Unfounded}
 use Rattle.kb_founding.specs.declared.fault.Unfounded.TheVariants as faults
-use Rattle.kb_founding.specs.Foundings.{Bytes, FoundsFirst, FoundsWith, IsLeft, AreTextsOf, SameFrom, TellsFault}
+use Rattle.kb_founding.specs.Foundings.{Bytes, FoundsFirst, FoundsWith, IsLeft, AreTextsOf, SameFrom}
+use Rattle.kb_founding.specs.Foundings.{TellsFault}
 use Rattle.kb_founding.specs.Foundings.{first_commands, is_among, text_fault}
 use Rattle.kb_founding.specs.Private.Runs.{Founds}
 
@@ -51,7 +53,8 @@ module _ (folder : List ℕ) (lanes : ℕ) (records : List (List ℕ)) (old new 
       → (told : TextFault) → result ≡ Err (faults.Text told) → ⊥
   no_text result founds told is = subst (Founds folder lanes records old new) is founds
 
-  pub one_left : (result : Result (Unit {0}) Unfounded) → Founds folder lanes records old new result → (lane : ℕ)
+  pub one_left : (result : Result (Unit {0}) Unfounded) → Founds folder lanes records old new result
+      → (lane : ℕ)
       → result ≡ Err (faults.NotEmpty lane) → (lane < lanes)
       × FoundsFirst folder lanes lane (lane + 1) records old new × IsLeft (old folder lane) (new folder lane)
   one_left result founds lane is = subst (Founds folder lanes records old new) is founds
@@ -64,10 +67,12 @@ module _ (folder : List ℕ) (lanes : ℕ) (records : List (List ℕ)) (old new 
       founds.2.others this_folder this
       (fewer folder (founds.0 + 1) lanes this_folder this (omega (arith, founds.1)) none)
   others_same (Err faults.NoMemory) founds this_folder this none =
-      founds.2.others this_folder this (fewer folder founds.0 lanes this_folder this (omega (arith, founds.1)) none)
+      founds.2.others this_folder this (fewer folder founds.0 lanes this_folder this
+      (omega (arith, founds.1)) none)
   others_same (Err (faults.Text fault)) founds this_folder this none = absurd founds
   others_same (Err (faults.NotEmpty lane)) founds this_folder this none =
-      founds.1.others this_folder this (fewer folder (lane + 1) lanes this_folder this (omega (arith, founds.0)) none)
+      founds.1.others this_folder this (fewer folder (lane + 1) lanes this_folder this
+      (omega (arith, founds.0)) none)
 
 -- where each is made, they are made with the texts of two files
 pub founded_with : (today : ℕ) (folder : List ℕ) (lanes : ℕ) (catalog_file overdue_file : Option (List ℕ))

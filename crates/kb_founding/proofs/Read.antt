@@ -1,5 +1,6 @@
 -- What is read of a file, and what is told of it.
-use Rattle.std.proofs.Common.{ℕ, ◌≡◌, ◌≤◌, Bool, true, false, nat_lt, List, length, take, Option, Some, None, IfSome}
+use Rattle.std.proofs.Common.{ℕ, ◌≡◌, ◌≤◌, Bool, true, false, nat_lt, List, length, take, Option, Some, None}
+use Rattle.std.proofs.Common.{IfSome}
 use Rattle.std.proofs.Common.{Result, Ok, Err, IsOk, refl, subst, arith, ◌∙◌}
 use Rattle.std.proofs.lemmas.Bool.Decides.{nat_tests}
 use Rattle.std.proofs.lemmas.List.{take_all, length-take}
@@ -8,7 +9,8 @@ use Rattle.kb_catalog.specs.declared.version.Version.{Version}
 use Rattle.kb_overdue.specs.declared.state.OverdueState.{OverdueState}
 use Rattle.kb_catalog_text.specs.declared.fault.TextFault.{TextFault}
 use Rattle.kb_catalog_text.specs.Reads.{Read}
-use Rattle.kb_catalog_text.specs.Texts.{max_bytes, text_read, version_judged, states_judged, catalog_read, overdue_read}
+use Rattle.kb_catalog_text.specs.Texts.{max_bytes, text_read, version_judged, states_judged, catalog_read}
+use Rattle.kb_catalog_text.specs.Texts.{overdue_read}
 use Rattle.kb_catalog_text.specs.CatalogText.{version_in}
 use Rattle.kb_catalog_text.specs.OverdueText.{states_in}
 use Rattle.kb_vault.specs.declared.vault.TheConstants.{MAX_FILE}
@@ -18,7 +20,8 @@ use Rattle.kb_founding.specs.Foundings.{read_part, first_fault, IsTextOf, TellsF
 use Rattle.kb_founding.specs.Private.Readings.{IsReadAs}
 
 -- a text that is read isn't too long
-module _ {A : Type 0} (rules : A → Result A TextFault) (read : Members → Read A) (bytes : List ℕ) (value : A) where
+module _ {A : Type 0} (rules : A → Result A TextFault) (read : Members → Read A) (bytes : List ℕ)
+    (value : A) where
   read-short : text_read rules read bytes ≡ Ok value → length bytes ≤ max_bytes
   unfolding text_read
   read-short told = by_length (nat_lt max_bytes (length bytes)) refl
@@ -27,7 +30,8 @@ module _ {A : Type 0} (rules : A → Result A TextFault) (read : Members → Rea
       by_length true is = let said = rw is at told in absurd (cc)
       by_length false is = grind (arith, nat_tests)
 
-pub catalog_short : (bytes : List ℕ) (version : Version) → catalog_read bytes ≡ Ok version → length bytes ≤ max_bytes
+pub catalog_short : (bytes : List ℕ) (version : Version) → catalog_read bytes ≡ Ok version
+    → length bytes ≤ max_bytes
 catalog_short bytes version told = read-short version_judged version_in bytes version told
 
 pub overdue_short : (bytes : List ℕ) (states : List OverdueState) → overdue_read bytes ≡ Ok states
@@ -38,7 +42,8 @@ overdue_short bytes states told = read-short states_judged states_in bytes state
 whole_read : (whole : List ℕ) → length (take MAX_FILE whole) ≤ max_bytes → take MAX_FILE whole ≡ whole
 whole_read whole short = take_all MAX_FILE whole (omega (arith, short, length-take MAX_FILE whole))
 
-pub text_kept : (file : Option (List ℕ)) (bytes text : List ℕ) → IfSome file (λ whole. bytes ≡ take MAX_FILE whole)
+pub text_kept : (file : Option (List ℕ)) (bytes text : List ℕ)
+    → IfSome file (λ whole. bytes ≡ take MAX_FILE whole)
     → text ≡ bytes → length text ≤ max_bytes → IsTextOf file text
 text_kept None bytes text told same short = tt
 text_kept (Some whole) bytes text told same short =
@@ -55,7 +60,8 @@ module _ {A B : Type 0} (read : List ℕ → Result A TextFault) (other : List �
       (first_fault (read (read_part whole)) (other (read_part more))) (Err fault)))
   file_second file other_file later fault same accepted refused =
       by_files file other_file accepted
-      (subst (λ (l : Option (List ℕ)). IfSome l (λ more. IsReadAs {B = ℕ} (other (read_part more)) (Err fault))) same
+      (subst (λ (l : Option (List ℕ)). IfSome l (λ more. IsReadAs {B = ℕ} (other (read_part more))
+      (Err fault))) same
       refused)
     where
       by_fault : (first : Result A TextFault) (second : Result B TextFault) (fault : Unfounded) → IsOk first
@@ -77,7 +83,8 @@ module _ {A B : Type 0} (read : List ℕ → Result A TextFault) (other : List �
 
   -- neither is
   pub file_none : (file other_file later : Option (List ℕ)) → later ≡ other_file
-      → IfSome file (λ whole. IsOk (read (read_part whole))) → IfSome later (λ more. IsOk (other (read_part more)))
+      → IfSome file (λ whole. IsOk (read (read_part whole)))
+      → IfSome later (λ more. IsOk (other (read_part more)))
       → IfSome file (λ whole. IfSome other_file (λ more.
       first_fault (read (read_part whole)) (other (read_part more)) ≡ None))
   file_none file other_file later same accepted accepted_too =

@@ -1,5 +1,6 @@
 -- How the lanes of a folder are made, each with the same two texts.
-use Rattle.std.specs.Prelude.{ℕ, ◌≡◌, ◌<◌, nat_lt, ◌&&◌, Bool, true, false, List, [], ◌∷◌, length, take, codes, bytes_eq}
+use Rattle.std.specs.Prelude.{ℕ, ◌≡◌, ◌<◌, nat_lt, ◌&&◌, Bool, true, false, List, [], ◌∷◌, length, take}
+use Rattle.std.specs.Prelude.{codes, bytes_eq}
 use Rattle.std.specs.Prelude.{Option, Some, None, IfSome, Result, Ok, Err, ⊤, refl}
 use Rattle.std.specs.Str.{is_utf8, chars}
 use Rattle.toml.proofs.OnLiterals.{toml_on_literals}
@@ -34,7 +35,8 @@ overdue_command text = kinds.OverdueRules (record { key = first_key; text = text
 
 -- both, as they came on a day
 abbrev pub first_commands : ℕ → CatalogText → OverdueText → History
-first_commands today catalog overdue = (today, catalog_command catalog) ∷ (today, overdue_command overdue) ∷ []
+first_commands today catalog overdue = (today, catalog_command catalog)
+    ∷ (today, overdue_command overdue) ∷ []
 
 -- what a lane's texts say after both: one version of the catalog, and the overdue states
 abbrev pub first_world : CatalogText → OverdueText → WorldValue
@@ -74,7 +76,8 @@ abbrev pub IsTextOf : Option (List ℕ) → List ℕ → Type 0
 IsTextOf file text = IfSome file (λ whole. text ≡ whole)
 
 -- Two texts are those of two files, and say what is told of them.
-pub record AreTextsOf (catalog_file overdue_file : Option (List ℕ)) (catalog : CatalogText) (overdue : OverdueText)
+pub record AreTextsOf (catalog_file overdue_file : Option (List ℕ)) (catalog : CatalogText)
+    (overdue : OverdueText)
     : Type 0 where
   pub catalog_kept : IsTextOf catalog_file catalog.text
   pub catalog_said : IsCatalogText catalog
@@ -108,11 +111,12 @@ the_third_of_three = refl
 
 -- of all lanes but the first so many of a folder the same is told
 abbrev pub SameFrom : List ℕ → ℕ → Bytes → Bytes → Type 0
-SameFrom folder count old new = (this_folder : List ℕ) (this : ℕ) → is_among folder count this_folder this ≡ false
+SameFrom folder count old new = (this_folder : List ℕ) (this : ℕ)
+    → is_among folder count this_folder this ≡ false
     → new this_folder this ≡ old this_folder this
 
--- The first lanes of a folder are made, so many of all, each with these records; and no lane was touched but the first
--- so many.
+-- The first lanes of a folder are made, so many of all, each with these records; and no lane was touched
+-- but the first so many.
 pub record FoundsFirst (folder : List ℕ) (lanes count touched : ℕ) (records : List (List ℕ)) (old new : Bytes)
     : Type 0 where
   pub founded : (lane : ℕ) → lane < count → IsFounded lanes lane records (old folder lane) (new folder lane)

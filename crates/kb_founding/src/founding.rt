@@ -5,7 +5,8 @@ ghost use Rattle.kb_catalog_text.specs.Texts.{CatalogText, OverdueText};
 ghost use Rattle.kb_machine.specs.Histories.{AreNewFrom, replay};
 ghost use Rattle.kb_machine.specs.Machines.{no_machine};
 ghost use Rattle.kb_vault.specs.Places.{SameFiles, SameLanes};
-ghost use Rattle.kb_founding.specs.Foundings.{first_commands, first_world, text_fault, TellsFault, FoundsWith, IsLeft, SameFrom, CountsFaults};
+ghost use Rattle.kb_founding.specs.Foundings.{first_commands, first_world, text_fault, TellsFault};
+ghost use Rattle.kb_founding.specs.Foundings.{FoundsWith, IsLeft, SameFrom, CountsFaults};
 
 use crate::Unfounded;
 use crate::lanes::found_each;
@@ -14,9 +15,9 @@ use kb_days::Day;
 use kb_vault::Vault;
 use std::alloc::Global;
 
-/// Makes so many lanes in a folder, each with the same two commands: the catalog text of a file, and the overdue text
-/// of another, both under the key `init` and on one day. The catalog text is judged before the other file is read. A
-/// fault leaves the lanes that were made before it.
+/// Makes so many lanes in a folder, each with the same two commands: the catalog text of a file, and the
+/// overdue text of another, both under the key `init` and on one day. The catalog text is judged before the
+/// other file is read. A fault leaves the lanes that were made before it.
 #[tactic(auto, using(crate::proofs::Accepted::both_new, crate::proofs::Accepted::both_said))]
 pub fn found_lanes<V: Vault>(
     alloc: Global,
@@ -36,13 +37,15 @@ pub fn found_lanes<V: Vault>(
         → AreNewFrom no_machine (first_commands today version states) }
     ensures said { (version : CatalogText) (states : OverdueText)
         → (replay (first_commands today version states)).texts.world ≡ first_world version states }
-    ensures refused { IfSome (V.file_bytes vault.old catalog.now) (λ version. IfSome (V.file_bytes vault.old overdue.now)
+    ensures refused { IfSome (V.file_bytes vault.old catalog.now)
+        (λ version. IfSome (V.file_bytes vault.old overdue.now)
         (λ states. TellsFault (text_fault version states) result)) }
     ensures untouched { (fault : AnyTextFault) → result ≡ Err (Unfounded.Text fault)
         → SameLanes (V.lane_bytes vault.new) (V.lane_bytes vault.old) }
     ensures not_empty { (lane : ℕ) → result ≡ Err (Unfounded.NotEmpty lane) → (lane < lanes)
         × IsLeft (V.lane_bytes vault.old folder.now lane) (V.lane_bytes vault.new folder.now lane) }
-    ensures before { (lane : ℕ) → result ≡ Err (Unfounded.NotEmpty lane) → FoundsWith today folder.now lanes lane
+    ensures before { (lane : ℕ) → result ≡ Err (Unfounded.NotEmpty lane)
+        → FoundsWith today folder.now lanes lane
         (lane + 1) (V.file_bytes vault.old catalog.now) (V.file_bytes vault.old overdue.now)
         (V.lane_bytes vault.old) (V.lane_bytes vault.new) }
     ensures others { SameFrom folder.now lanes (V.lane_bytes vault.old) (V.lane_bytes vault.new) }

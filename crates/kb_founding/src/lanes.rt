@@ -54,7 +54,8 @@ fn found_lane<V: Vault>(
     requires few_lanes { lanes ≤ 64 }
     requires sized_first { IsSized first.now }
     requires sized_second { IsSized second.now }
-    ensures founds { FoundsOne lanes lane (first.now ∷ second.now ∷ []) (V.lane_bytes vault.old folder.now lane)
+    ensures founds { FoundsOne lanes lane (first.now ∷ second.now ∷ [])
+        (V.lane_bytes vault.old folder.now lane)
         (V.lane_bytes vault.new folder.now lane) result }
     ensures others { SameElsewhere folder.now lane (V.lane_bytes vault.old) (V.lane_bytes vault.new) }
     ensures same_out { SameLanes (V.is_out vault.new) (V.is_out vault.old) }

@@ -1,11 +1,13 @@
 //! The two texts, read from their files, as the first commands of a lane.
 ghost use Rattle.std.specs.Prelude.{◌≡◌, ◌≤◌, ℕ, Err, IfOk, IfErr, IfSome};
-ghost use Rattle.kb_catalog_text.specs.Texts.{CatalogText, OverdueText, IsFaultOf, catalog_read, overdue_read};
+ghost use Rattle.kb_catalog_text.specs.Texts.{CatalogText, OverdueText, IsFaultOf, catalog_read};
+ghost use Rattle.kb_catalog_text.specs.Texts.{overdue_read};
 ghost use Rattle.kb_codec.specs.Commands.{IsCatalogText, IsOverdueText};
 ghost use Rattle.kb_journal.specs.Format.{IsSized};
 ghost use Rattle.kb_log.specs.Entries.{payload};
 ghost use Rattle.kb_vault.specs.Places.{SameFiles, SameLanes};
-ghost use Rattle.kb_founding.specs.Foundings.{catalog_command, overdue_command, first_key, read_part, text_fault, IsTextOf, AreTextsOf, TellsFault, CountsFaults};
+ghost use Rattle.kb_founding.specs.Foundings.{catalog_command, overdue_command, first_key, read_part};
+ghost use Rattle.kb_founding.specs.Foundings.{text_fault, IsTextOf, AreTextsOf, TellsFault, CountsFaults};
 ghost use Rattle.kb_founding.specs.Private.Readings.{IsReadAs};
 
 use crate::Unfounded;
@@ -30,7 +32,8 @@ pub(crate) fn both_records<V: Vault>(
         × (both.1.items ≡ payload (today, overdue_command states))) }
     ensures sized_first { IfOk result (λ both. IsSized both.0.items) }
     ensures sized_second { IfOk result (λ both. IsSized both.1.items) }
-    ensures judged { IfSome (V.file_bytes vault.old catalog.now) (λ version. IfSome (V.file_bytes vault.old overdue.now)
+    ensures judged { IfSome (V.file_bytes vault.old catalog.now)
+        (λ version. IfSome (V.file_bytes vault.old overdue.now)
         (λ states. TellsFault (text_fault version states) result)) }
     ensures of_text { (lane : ℕ) → result ≡ Err (Unfounded.NotEmpty lane) → ⊥ }
     ensures same_out { SameLanes (V.is_out vault.new) (V.is_out vault.old) }
@@ -53,7 +56,8 @@ fn catalog_record<V: Vault>(
     today: Day,
     name: &str,
 ) -> Result<Vec<u8>, Unfounded>
-    ensures record { IfOk result (λ bytes. (text : CatalogText) × IsTextOf (V.file_bytes vault.old name.now) text.text
+    ensures record { IfOk result (λ bytes. (text : CatalogText)
+        × IsTextOf (V.file_bytes vault.old name.now) text.text
         × IsCatalogText text × (bytes.items ≡ payload (today, catalog_command text))) }
     ensures sized { IfOk result (λ bytes. IsSized bytes.items) }
     ensures judged { IfSome (V.file_bytes vault.old name.now) (λ whole.
@@ -76,7 +80,8 @@ fn overdue_record<V: Vault>(
     today: Day,
     name: &str,
 ) -> Result<Vec<u8>, Unfounded>
-    ensures record { IfOk result (λ bytes. (text : OverdueText) × IsTextOf (V.file_bytes vault.old name.now) text.text
+    ensures record { IfOk result (λ bytes. (text : OverdueText)
+        × IsTextOf (V.file_bytes vault.old name.now) text.text
         × IsOverdueText text × (bytes.items ≡ payload (today, overdue_command text))) }
     ensures sized { IfOk result (λ bytes. IsSized bytes.items) }
     ensures judged { IfSome (V.file_bytes vault.old name.now) (λ whole.

@@ -1,5 +1,6 @@
 //! The journal of a lane, made with its first two records.
-ghost use Rattle.std.specs.Prelude.{◌≡◌, ◌≤◌, ◌<◌, ◌+◌, ◌++◌, ◌∷◌, [], ℕ, List, false, length, IsTrue, IfErr, OnOk, OnErr};
+ghost use Rattle.std.specs.Prelude.{◌≡◌, ◌≤◌, ◌<◌, ◌+◌, ◌++◌, ◌∷◌, [], ℕ, List, false, length, IsTrue, IfErr};
+ghost use Rattle.std.specs.Prelude.{OnOk, OnErr};
 ghost use Rattle.kb_base.specs.Faults.{Rose};
 ghost use Rattle.kb_journal.specs.Format.{IsSized, StandsFor};
 ghost use Rattle.kb_journal.specs.Keeping.{Holds, RefusesToCreate};

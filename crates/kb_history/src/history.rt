@@ -6,8 +6,8 @@ use std::marker::Model;
 use std::mem;
 use std::snapshot::Snapshot;
 
-/// A history of notes, each of two parts. Contracts see it as the list of them, in order; code sees nothing of
-/// it.
+/// A history of notes, each of two parts. Contracts see it as the list of them, in order; code sees nothing
+/// of it.
 #[derive(Drop)]
 pub struct History<A, B> {
     past: Snapshot<Past<A, B>>,

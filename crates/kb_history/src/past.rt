@@ -5,7 +5,8 @@ ghost use Rattle.std.specs.Prelude.{◌≡◌, []};
 use std::marker::Model;
 use std::snapshot::Snapshot;
 
-/// What a history was before its last note, and the two parts of that note. Contracts see it as the whole list.
+/// What a history was before its last note, and the two parts of that note. Contracts see it as the whole
+/// list.
 #[derive(Drop)]
 pub struct Past<A, B> {
     pub before: Option<Snapshot<Past<A, B>>>,
@@ -20,7 +21,8 @@ impl<A, B> Model for Past<A, B> {
     ghost Value = { List (A × B) };
 
     ghost view = { λ past. with_note (option_map (λ snapshot. snapshot.value) past.before)
-        (option_map (λ snapshot. snapshot.value) past.first) (option_map (λ snapshot. snapshot.value) past.second) };
+        (option_map (λ snapshot. snapshot.value) past.first)
+        (option_map (λ snapshot. snapshot.value) past.second) };
 
     ghost invariant = { λ past. IsSome past.before → IsSome past.first × IsSome past.second };
 

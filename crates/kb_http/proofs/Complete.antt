@@ -1,6 +1,8 @@
 -- The causes of a connection's answers rule each other out.
-use Rattle.std.proofs.Common.{◌≡◌, ◌≢◌, ℕ, ◌≤◌, ◌<◌, Bool, true, false, List, [], ◌∷◌, ◌++◌, length, take, drop, refl, sym, ap, ◌∙◌, subst, inl, inr}
-use Rattle.std.proofs.Common.{append_assoc, append-nil, take-append-drop, take-take, arith, Option, None, Some, Result, Ok, Err}
+use Rattle.std.proofs.Common.{◌≡◌, ◌≢◌, ℕ, ◌≤◌, ◌<◌, Bool, true, false, List, [], ◌∷◌, ◌++◌, length, take}
+use Rattle.std.proofs.Common.{drop, refl, sym, ap, ◌∙◌, subst, inl, inr}
+use Rattle.std.proofs.Common.{append_assoc, append-nil, take-append-drop, take-take, arith, Option, None}
+use Rattle.std.proofs.Common.{Some, Result, Ok, Err}
 use Rattle.std.proofs.lemmas.List.{length-append, take_at}
 use Rattle.std.specs.List.{list_all}
 use Rattle.std.proofs.lemmas.List.Folds.{list_all_at}
@@ -8,11 +10,13 @@ use Rattle.std.proofs.Common.{get_or}
 use lib.Seq.{take-append-le}
 use Rattle.std.specs.Prelude.{codes}
 use Rattle.std.specs.Io.KnownBytes.{prepend_known, Keeps, Consumes}
-use Rattle.httparse.specs.Grammar.{RequestHead, IsRequestHead, ReadsRequest, print_request, is_token_byte, is_uri_byte, crlf, print_blank}
+use Rattle.httparse.specs.Grammar.{RequestHead, IsRequestHead, ReadsRequest, print_request, is_token_byte}
+use Rattle.httparse.specs.Grammar.{is_uri_byte, crlf, print_blank}
 use Rattle.httparse.proofs.GrammarLemmas.{ReadsRequest-append, request_unique, print_request-append}
 use Rattle.kb_http.specs.declared.request.HttpRequest.{HttpRequest}
 use Rattle.kb_http.specs.declared.stop.HttpNext.{HttpNext}
-use Rattle.kb_http.specs.declared.stop.HttpNext.TheVariants.{Request, Refuse, Closed, Cut, InputFault, NoMemory}
+use Rattle.kb_http.specs.declared.stop.HttpNext.TheVariants.{Request, Refuse, Closed, Cut, InputFault}
+use Rattle.kb_http.specs.declared.stop.HttpNext.TheVariants.{NoMemory}
 use Rattle.kb_http.specs.Heads.{max_head, max_fields, framing}
 use Rattle.kb_http.specs.Requests.{BeginsWith, IsRequest, IsRefused, IsCutShort}
 use Rattle.kb_http.specs.Connections.{IsCaused, IfRequest, UnlessRequest, Meets, MeetsPart, MeetsEnd}
@@ -41,19 +45,26 @@ reads_more bytes part behind h rest split reads =
     subst P (sym split) (ReadsRequest-append part h rest behind reads)
 
 -- a head that is short enough is among the first bytes
-reads_first : (n : ℕ) (bytes pending behind : List ℕ) (h : RequestHead) (rest : List ℕ) → bytes ≡ pending ++ behind
+reads_first : (n : ℕ) (bytes pending behind : List ℕ) (h : RequestHead) (rest : List ℕ)
+    → bytes ≡ pending ++ behind
     → length (print_request h) ≤ n → n ≤ length pending → ReadsRequest bytes h rest
     → ReadsRequest (take n pending) h (drop (length (print_request h)) (take n pending))
 reads_first n bytes pending behind h rest split short long reads =
     let count = length (print_request h) in
-    let front : take count bytes ≡ print_request h = ap (take count) reads.1 ∙ take_at (print_request h) rest count refl in
+    let front : take count bytes ≡ print_request h = ap (take count) reads.1
+    ∙ take_at (print_request h) rest count refl in
     let within : count ≤ length pending = omega (arith, short, long) in
     let among : take count (take n pending) ≡ print_request h =
-    take-take count n pending short ∙ sym (take-append-le count pending behind within) ∙ ap (take count) (sym split) ∙ front in
-    (reads.0, sym (take-append-drop count (take n pending)) ∙ ap (λ text. text ++ drop count (take n pending)) among)
+    take-take count n pending short ∙ sym (take-append-le count pending behind within)
+    ∙ ap (take count) (sym split) ∙ front in (
+      reads.0,
+      sym (take-append-drop count (take n pending))
+          ∙ ap (λ text. text ++ drop count (take n pending)) among,
+    )
 
 -- a request that is given is the one that the bytes begin with
-meets_request : (bytes part behind : List ℕ) (head : RequestHead) (rest : List ℕ) (given : ℕ) (request : HttpRequest)
+meets_request : (bytes part behind : List ℕ) (head : RequestHead) (rest : List ℕ) (given : ℕ)
+    (request : HttpRequest)
     → BeginsWith bytes head rest → bytes ≡ part ++ behind → IsRequest given part request
     → (framing head ≡ Ok (length request.body)) × ((more : List ℕ) × (rest ≡ request.body ++ more))
 meets_request bytes part behind head rest given request begins split is =
@@ -63,12 +74,14 @@ meets_request bytes part behind head rest given request begins split is =
 
 -- a refusal is the one that the head asks for
 meets_refusal : (bytes pending behind : List ℕ) (head : RequestHead) (rest : List ℕ) (status : ℕ)
-    → BeginsWith bytes head rest → bytes ≡ pending ++ behind → IsRefused status pending → framing head ≡ Err status
+    → BeginsWith bytes head rest → bytes ≡ pending ++ behind → IsRefused status pending
+    → framing head ≡ Err status
 meets_refusal bytes pending behind head rest status begins split (inl (is, never)) =
     let P : List ℕ → Type 0 = λ text. ReadsRequest text head rest in
     absurd (never behind head rest (subst P split begins.reads))
 meets_refusal bytes pending behind head rest status begins split (inr (inl (is, inl (long, none)))) =
-    absurd (none head _ (reads_first max_head bytes pending behind head rest split begins.short long begins.reads))
+    absurd (none head _ (reads_first max_head bytes pending behind head rest split begins.short long
+    begins.reads))
 meets_refusal bytes pending behind head rest status begins split (inr (inl (is, inr (exceeds, overflows)))) =
     let P : List ℕ → Type 0 = λ text. ReadsRequest text head rest in
     let over = overflows behind head rest (subst P split begins.reads) in
@@ -91,15 +104,18 @@ meets_cut bytes pending head rest begins split (inr (other, later, count, first,
     (count, ap framing same.0 ∙ framed, omega (arith, sized, few))
 
 -- what is told where the bytes begin with a head within the limits
-pub meets : (old new given : ℕ) (left : Option (List ℕ)) (bytes pending : List ℕ) (head : RequestHead) (rest : List ℕ)
+pub meets : (old new given : ℕ) (left : Option (List ℕ)) (bytes pending : List ℕ) (head : RequestHead)
+    (rest : List ℕ)
     (result : HttpNext)
     → IfRequest result (λ request. (part : List ℕ) × Consumes (Some bytes) (prepend_known pending left) part
     × IsRequest given part request)
-    → UnlessRequest result (Keeps (Some bytes) (prepend_known pending left)) → IsCaused old new left pending result
+    → UnlessRequest result (Keeps (Some bytes) (prepend_known pending left))
+    → IsCaused old new left pending result
     → BeginsWith bytes head rest → Meets head rest result
 meets old new given None bytes pending head rest (Request request) (part, consumed, is) kept cause begins =
     absurd consumed
-meets old new given (Some later) bytes pending head rest (Request request) (part, consumed, is) kept cause begins =
+meets old new given (Some later) bytes pending head rest (Request request) (part, consumed, is) kept
+    cause begins =
     meets_request bytes part (pending ++ later) head rest given request begins consumed is
 meets old new given None bytes pending head rest (Refuse status) told kept cause begins = absurd kept
 meets old new given (Some later) bytes pending head rest (Refuse status) told kept cause begins =
@@ -111,12 +127,14 @@ meets old new given (Some later) bytes pending head rest Closed told kept (none,
     no_head head rest (subst P empty begins.reads)
 meets old new given None bytes pending head rest Cut told kept cause begins = absurd kept
 meets old new given (Some later) bytes pending head rest Cut told kept (short, end) begins =
-    meets_cut bytes pending head rest begins (sym kept ∙ ap (λ text. pending ++ text) end ∙ append-nil pending) short
+    meets_cut bytes pending head rest begins (sym kept ∙ ap (λ text. pending ++ text) end
+    ∙ append-nil pending) short
 meets old new given left bytes pending head rest InputFault told kept cause begins = tt
 meets old new given left bytes pending head rest NoMemory told kept cause begins = tt
 
 -- each byte passes a test
-all_true : (p : ℕ → Bool) (xs : List ℕ) → list_all p xs ≡ true → (k d : ℕ) → k < length xs → p (get_or xs k d) ≡ true
+all_true : (p : ℕ → Bool) (xs : List ℕ) → list_all p xs ≡ true → (k d : ℕ) → k < length xs
+    → p (get_or xs k d) ≡ true
 all_true p xs all k d within = by_test (p (get_or xs k d)) refl
   where
     by_test : (test : Bool) → p (get_or xs k d) ≡ test → test ≡ true
@@ -169,7 +187,8 @@ both_empty (byte ∷ bytes) later none = absurd (cc)
 pub meets_end : (old new given : ℕ) (left : Option (List ℕ)) (pending : List ℕ) (result : HttpNext)
     → IfRequest result (λ request. (part : List ℕ) × Consumes (Some []) (prepend_known pending left) part
     × IsRequest given part request)
-    → UnlessRequest result (Keeps (Some []) (prepend_known pending left)) → IsCaused old new left pending result
+    → UnlessRequest result (Keeps (Some []) (prepend_known pending left))
+    → IsCaused old new left pending result
     → MeetsEnd result
 meets_end old new given None pending (Request request) (part, consumed, is) kept cause = consumed
 meets_end old new given (Some later) pending (Request request) (part, consumed, is) kept cause =
@@ -187,7 +206,8 @@ meets_end old new given left pending InputFault told kept cause = tt
 meets_end old new given left pending NoMemory told kept cause = tt
 
 -- the same of bytes that are known
-pub meets_known : (old new given : ℕ) (before left : Option (List ℕ)) (bytes pending : List ℕ) (head : RequestHead)
+pub meets_known : (old new given : ℕ) (before left : Option (List ℕ)) (bytes pending : List ℕ)
+    (head : RequestHead)
     (rest : List ℕ) (result : HttpNext) → before ≡ Some bytes
     → IfRequest result (λ request. (part : List ℕ) × Consumes before (prepend_known pending left) part
     × IsRequest given part request)
@@ -196,8 +216,10 @@ pub meets_known : (old new given : ℕ) (before left : Option (List ℕ)) (bytes
 meets_known old new given before left bytes pending head rest result known told kept cause begins =
     let P : Option (List ℕ) → Type 0 = λ from. IfRequest result (λ request. (part : List ℕ)
     × Consumes from (prepend_known pending left) part × IsRequest given part request) in
-    let Q : Option (List ℕ) → Type 0 = λ from. UnlessRequest result (Keeps from (prepend_known pending left)) in
-    meets old new given left bytes pending head rest result (subst P known told) (subst Q known kept) cause begins
+    let Q : Option (List ℕ) → Type 0 = λ from. UnlessRequest result
+    (Keeps from (prepend_known pending left)) in
+    meets old new given left bytes pending head rest result (subst P known told)
+    (subst Q known kept) cause begins
 
 pub meets_none : (old new given : ℕ) (before left : Option (List ℕ)) (pending : List ℕ) (result : HttpNext)
     → before ≡ Some []
@@ -208,15 +230,18 @@ pub meets_none : (old new given : ℕ) (before left : Option (List ℕ)) (pendin
 meets_none old new given before left pending result known told kept cause =
     let P : Option (List ℕ) → Type 0 = λ from. IfRequest result (λ request. (part : List ℕ)
     × Consumes from (prepend_known pending left) part × IsRequest given part request) in
-    let Q : Option (List ℕ) → Type 0 = λ from. UnlessRequest result (Keeps from (prepend_known pending left)) in
+    let Q : Option (List ℕ) → Type 0 = λ from. UnlessRequest result
+    (Keeps from (prepend_known pending left)) in
     meets_end old new given left pending result (subst P known told) (subst Q known kept) cause
 
 -- more than a request: what is given is a part of another
 part_request : (bytes more part behind : List ℕ) (given : ℕ) (whole given_one : HttpRequest) → more ≢ []
     → IsRequest given (bytes ++ more) whole → bytes ≡ part ++ behind → IsRequest given part given_one → ⊥
 part_request bytes more part behind given whole given_one some is split one =
-    let later : bytes ++ more ≡ part ++ (behind ++ more) = ap (λ text. text ++ more) split ∙ append_assoc part behind more in
-    let reads = reads_more (bytes ++ more) part (behind ++ more) one.head given_one.body later one.begins.reads in
+    let later : bytes ++ more ≡ part ++ (behind ++ more) = ap (λ text. text ++ more) split
+    ∙ append_assoc part behind more in
+    let reads = reads_more (bytes ++ more) part (behind ++ more) one.head given_one.body later
+    one.begins.reads in
     let same = request_unique (bytes ++ more) is.head one.head whole.body (given_one.body ++ (behind ++ more))
     is.begins.reads reads in
     let counts = sym is.framed ∙ ap framing same.0 ∙ one.framed in
@@ -238,17 +263,21 @@ meets_part : (old new given : ℕ) (left : Option (List ℕ)) (bytes more pendin
     (result : HttpNext)
     → IfRequest result (λ request. (part : List ℕ) × Consumes (Some bytes) (prepend_known pending left) part
     × IsRequest given part request)
-    → UnlessRequest result (Keeps (Some bytes) (prepend_known pending left)) → IsCaused old new left pending result
+    → UnlessRequest result (Keeps (Some bytes) (prepend_known pending left))
+    → IsCaused old new left pending result
     → bytes ≢ [] → more ≢ [] → IsRequest given (bytes ++ more) whole → MeetsPart result
-meets_part old new given None bytes more pending whole (Request request) (part, consumed, is) kept cause any some whole_is =
+meets_part old new given None bytes more pending whole (Request request) (part, consumed, is) kept cause any
+    some whole_is =
     consumed
-meets_part old new given (Some later) bytes more pending whole (Request request) (part, consumed, is) kept cause any some
+meets_part old new given (Some later) bytes more pending whole (Request request) (part, consumed, is) kept
+    cause any some
     whole_is = part_request bytes more part (pending ++ later) given whole request some whole_is consumed is
 meets_part old new given None bytes more pending whole (Refuse status) told kept cause any some is = kept
 meets_part old new given (Some later) bytes more pending whole (Refuse status) told kept cause any some is =
     let split : bytes ++ more ≡ pending ++ (later ++ more) =
     ap (λ text. text ++ more) (sym kept) ∙ append_assoc pending later more in
-    let refused = meets_refusal (bytes ++ more) pending (later ++ more) is.head whole.body status is.begins split cause in
+    let refused = meets_refusal (bytes ++ more) pending (later ++ more) is.head whole.body status is.begins
+    split cause in
     let framed = is.framed in
     cc
 meets_part old new given None bytes more pending whole Closed told kept cause any some is = kept
@@ -258,7 +287,8 @@ meets_part old new given left bytes more pending whole Cut told kept cause any s
 meets_part old new given left bytes more pending whole InputFault told kept cause any some is = tt
 meets_part old new given left bytes more pending whole NoMemory told kept cause any some is = tt
 
-pub meets_some : (old new given : ℕ) (before left : Option (List ℕ)) (bytes more pending : List ℕ) (whole : HttpRequest)
+pub meets_some : (old new given : ℕ) (before left : Option (List ℕ)) (bytes more pending : List ℕ)
+    (whole : HttpRequest)
     (result : HttpNext) → before ≡ Some bytes
     → IfRequest result (λ request. (part : List ℕ) × Consumes before (prepend_known pending left) part
     × IsRequest given part request)
@@ -267,5 +297,7 @@ pub meets_some : (old new given : ℕ) (before left : Option (List ℕ)) (bytes 
 meets_some old new given before left bytes more pending whole result known told kept cause =
     let P : Option (List ℕ) → Type 0 = λ from. IfRequest result (λ request. (part : List ℕ)
     × Consumes from (prepend_known pending left) part × IsRequest given part request) in
-    let Q : Option (List ℕ) → Type 0 = λ from. UnlessRequest result (Keeps from (prepend_known pending left)) in
-    meets_part old new given left bytes more pending whole result (subst P known told) (subst Q known kept) cause
+    let Q : Option (List ℕ) → Type 0 = λ from. UnlessRequest result
+    (Keeps from (prepend_known pending left)) in
+    meets_part old new given left bytes more pending whole result (subst P known told)
+    (subst Q known kept) cause

@@ -1,5 +1,6 @@
 -- Numbers in decimal digits, read up to a limit.
-use Rattle.std.proofs.Common.{◌≡◌, ℕ, ◌+◌, ◌*◌, ◌<◌, min, Bool, true, false, ◌&&◌, if◌then◌else◌, List, [], ◌∷◌}
+use Rattle.std.proofs.Common.{◌≡◌, ℕ, ◌+◌, ◌*◌, ◌<◌, min, Bool, true, false, ◌&&◌, if◌then◌else◌, List, []}
+use Rattle.std.proofs.Common.{◌∷◌}
 use Rattle.std.proofs.Common.{lt-ltb, Option, Some, None, refl, sym, ap, ◌∙◌, arith, length}
 use Rattle.std.specs.List.{list_all}
 use Rattle.std.specs.Char.{is_ascii_digit, digit_value}
@@ -7,7 +8,8 @@ use Rattle.std.specs.Str.Parse.{digits_value_after}
 use Rattle.kb_http.specs.Private.Parts.{number_up_to, number_from}
 
 -- the limit may be taken at each digit
-min-later : (value digit limit : ℕ) → min (min value limit * 10 + digit) limit ≡ min (value * 10 + digit) limit
+min-later : (value digit limit : ℕ) → min (min value limit * 10 + digit) limit
+    ≡ min (value * 10 + digit) limit
 min-later value digit limit = grind arith
 
 number_from-min : (limit value : ℕ) (digits : List ℕ) → number_from limit (min value limit) digits
@@ -31,7 +33,8 @@ number_from-zero limit digit digits =
     ap (λ v. number_from limit v (digit ∷ digits)) (let e : 0 ≡ min 0 limit = omega arith in e)
     ∙ number_from-min limit 0 (digit ∷ digits)
     ∙ ap (λ some. if some && list_all is_ascii_digit (digit ∷ digits)
-    then Some (min (digits_value_after 10 0 (digit ∷ digits)) limit) else None) (sym (lt-ltb 0 (length (digit ∷ digits)) (omega arith)))
+    then Some (min (digits_value_after 10 0 (digit ∷ digits)) limit) else None)
+    (sym (lt-ltb 0 (length (digit ∷ digits)) (omega arith)))
 
 pub number_from_some : (limit : ℕ) (text : List ℕ) → 0 < length text
     → number_from limit 0 text ≡ number_up_to limit text

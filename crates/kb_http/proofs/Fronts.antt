@@ -16,7 +16,8 @@ onto_front front (piece ∷ pieces) = (front ++ piece) ∷ pieces
 onto_front-onto_first : (front : List ℕ) (byte : ℕ) (ps : List (List ℕ))
     → onto_front front (onto_first byte ps) ≡ onto_front (front ++ byte ∷ []) ps
 onto_front-onto_first front byte [] = refl
-onto_front-onto_first front byte (piece ∷ ps) = ap (λ text. text ∷ ps) (sym (append_assoc front (byte ∷ []) piece))
+onto_front-onto_first front byte (piece ∷ ps) = ap (λ text. text ∷ ps)
+    (sym (append_assoc front (byte ∷ []) piece))
 
 pieces-other : (separator byte : ℕ) (rest : List ℕ) → (byte == separator) ≡ false
     → pieces separator (byte ∷ rest) ≡ onto_first byte (pieces separator rest)
@@ -27,8 +28,10 @@ pub pieces-separator : (separator byte : ℕ) (rest : List ℕ) → (byte == sep
 pieces-separator separator byte rest same = rw same refl
 
 -- a byte that is no separator goes on with the first piece
-pub onto_front-pieces : (separator : ℕ) (front : List ℕ) (byte : ℕ) (rest : List ℕ) → (byte == separator) ≡ false
-    → onto_front front (pieces separator (byte ∷ rest)) ≡ onto_front (front ++ byte ∷ []) (pieces separator rest)
+pub onto_front-pieces : (separator : ℕ) (front : List ℕ) (byte : ℕ) (rest : List ℕ)
+    → (byte == separator) ≡ false
+    → onto_front front (pieces separator (byte ∷ rest))
+    ≡ onto_front (front ++ byte ∷ []) (pieces separator rest)
 onto_front-pieces separator front byte rest other =
     ap (onto_front front) (pieces-other separator byte rest other)
     ∙ onto_front-onto_first front byte (pieces separator rest)
@@ -41,20 +44,24 @@ onto_front-nil separator bytes =
 
 -- the bytes before a place hold no separator, and what stands behind it goes on with their piece
 abbrev pub ReadsUpTo : ℕ → List ℕ → ℕ → Type 0
-ReadsUpTo separator bytes at = pieces separator bytes ≡ onto_front (take at bytes) (pieces separator (drop at bytes))
+ReadsUpTo separator bytes at = pieces separator bytes ≡ onto_front (take at bytes)
+    (pieces separator (drop at bytes))
 
 pub read_on : (separator : ℕ) (bytes : List ℕ) (at : ℕ) → at < length bytes → get_or bytes at 0 ≢ separator
     → ReadsUpTo separator bytes at → ReadsUpTo separator bytes (at + 1)
 read_on separator bytes at within other so_far =
     so_far ∙ ap (λ rest. onto_front (take at bytes) (pieces separator rest)) (drop_more bytes at 0 within)
     ∙ onto_front-pieces separator (take at bytes) (get_or bytes at 0) (drop (at + 1) bytes) (ne_eqb _ _ other)
-    ∙ ap (λ front. onto_front front (pieces separator (drop (at + 1) bytes))) (sym (take_more bytes at 0 within))
+    ∙ ap (λ front. onto_front front (pieces separator (drop (at + 1) bytes)))
+    (sym (take_more bytes at 0 within))
 
 pub read_first : (separator : ℕ) (bytes : List ℕ) (at : ℕ) → at < length bytes → get_or bytes at 0 ≡ separator
-    → ReadsUpTo separator bytes at → pieces separator bytes ≡ take at bytes ∷ pieces separator (drop (at + 1) bytes)
+    → ReadsUpTo separator bytes at → pieces separator bytes ≡ take at bytes
+    ∷ pieces separator (drop (at + 1) bytes)
 read_first separator bytes at within same so_far =
     so_far ∙ ap (λ rest. onto_front (take at bytes) (pieces separator rest)) (drop_more bytes at 0 within)
-    ∙ ap (onto_front (take at bytes)) (pieces-separator separator (get_or bytes at 0) (drop (at + 1) bytes) (eq-eqb _ _ same))
+    ∙ ap (onto_front (take at bytes)) (pieces-separator separator (get_or bytes at 0) (drop (at + 1) bytes)
+    (eq-eqb _ _ same))
     ∙ ap (λ front. front ∷ pieces separator (drop (at + 1) bytes)) (append-nil (take at bytes))
 
 pub read_all : (separator : ℕ) (bytes : List ℕ) (at : ℕ) → length bytes ≤ at → ReadsUpTo separator bytes at

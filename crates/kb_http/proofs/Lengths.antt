@@ -1,5 +1,6 @@
 -- The length of a body, told by fields one after another.
-use Rattle.std.proofs.Common.{◌≡◌, ℕ, Bool, true, false, if◌then◌else◌, List, [], ◌∷◌, Option, None, Some, Result, Err, refl, ap, ◌∙◌}
+use Rattle.std.proofs.Common.{◌≡◌, ℕ, Bool, true, false, if◌then◌else◌, List, [], ◌∷◌, Option, None, Some}
+use Rattle.std.proofs.Common.{Result, Err, refl, ap, ◌∙◌}
 use Rattle.std.specs.Prelude.{bytes_eq, codes}
 use Rattle.std.specs.List.{list_any}
 use Rattle.kb_http.specs.Heads.{is_named, values_of, body_length, framing_of}
@@ -33,10 +34,12 @@ told_by-values told (field ∷ fields) =
     (told_by-values told fields)
   where
     by_test : (test : Bool)
-        → told_by (told_with told field.1) fields ≡ told_on (told_with told field.1) (values_of (codes "content-length") fields)
+        → told_by (told_with told field.1) fields ≡ told_on (told_with told field.1)
+        (values_of (codes "content-length") fields)
         → told_by told fields ≡ told_on told (values_of (codes "content-length") fields)
         → told_by (if test then told_with told field.1 else told) fields
-        ≡ told_on told (if test then field.1 ∷ values_of (codes "content-length") fields else values_of (codes "content-length") fields)
+        ≡ told_on told (if test then field.1 ∷ values_of (codes "content-length") fields else values_of
+        (codes "content-length") fields)
     by_test true named other = named
     by_test false named other = other
 

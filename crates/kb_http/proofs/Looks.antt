@@ -1,5 +1,6 @@
 -- Only as many bytes are looked at as a head may have: what is seen of them holds of all.
-use Rattle.std.proofs.Common.{◌≡◌, ℕ, ◌≤◌, ◌<◌, List, [], ◌++◌, length, take, drop, min, refl, sym, ap, ◌∙◌, subst, inl, inr}
+use Rattle.std.proofs.Common.{◌≡◌, ℕ, ◌≤◌, ◌<◌, List, [], ◌++◌, length, take, drop, min, refl, sym, ap, ◌∙◌}
+use Rattle.std.proofs.Common.{subst, inl, inr}
 use Rattle.std.proofs.Common.{append_assoc, take-append-drop, arith, length-take, Option}
 use lib.Seq.{drop-append-le}
 use Rattle.std.proofs.lemmas.List.{take_all}
@@ -18,14 +19,16 @@ use Rattle.kb_http.specs.Private.Reading.{Looks, HasHead, Stops}
 -- the bytes that are looked at, and the others
 more_behind : (n : ℕ) (bytes more : List ℕ) → bytes ++ more ≡ take n bytes ++ (drop n bytes ++ more)
 more_behind n bytes more =
-    ap (λ text. text ++ more) (sym (take-append-drop n bytes)) ∙ append_assoc (take n bytes) (drop n bytes) more
+    ap (λ text. text ++ more) (sym (take-append-drop n bytes))
+    ∙ append_assoc (take n bytes) (drop n bytes) more
 
 never_all : (n : ℕ) (bytes : List ℕ) → NeverHasRequest (take n bytes) → NeverHasRequest bytes
 never_all n bytes never more h rest reads =
     let P : List ℕ → Type 0 = λ text. ReadsRequest text h rest in
     never (drop n bytes ++ more) h rest (subst P (more_behind n bytes more) reads)
 
-overflows_all : (n room : ℕ) (bytes : List ℕ) → RequestOverflows room (take n bytes) → RequestOverflows room bytes
+overflows_all : (n room : ℕ) (bytes : List ℕ) → RequestOverflows room (take n bytes)
+    → RequestOverflows room bytes
 overflows_all n room bytes overflows more h rest reads =
     let P : List ℕ → Type 0 = λ text. ReadsRequest text h rest in
     overflows (drop n bytes ++ more) h rest (subst P (more_behind n bytes more) reads)
@@ -34,7 +37,8 @@ exceeds_all : (n room : ℕ) (bytes : List ℕ) → RequestExceeds room (take n 
 exceeds_all n room bytes (front, rest, split, h, reads, over) = (
   front,
   rest ++ drop n bytes,
-  sym (take-append-drop n bytes) ∙ ap (λ text. text ++ drop n bytes) split ∙ append_assoc front rest (drop n bytes),
+  sym (take-append-drop n bytes) ∙ ap (λ text. text ++ drop n bytes) split
+      ∙ append_assoc front rest (drop n bytes),
   h,
   reads,
   over,
@@ -69,10 +73,18 @@ sees_all bytes (Whole found) (head, whole) = whole_all bytes found head whole
 sees_all bytes Part seen = seen
 sees_all bytes (Refused status) (inl (is, never)) = inl (is, never_all max_head bytes never)
 sees_all bytes (Refused status) (inr (is, further)) =
-    inr (inl (is, inr (exceeds_all max_head max_fields bytes further.0, overflows_all max_head max_fields bytes further.1)))
+    inr (inl (
+      is,
+      inr (
+        exceeds_all max_head max_fields bytes further.0,
+        overflows_all max_head max_fields
+            bytes further.1,
+      ),
+    ))
 
 -- fewer bytes than a head may have, which are a part of one
-pub part_cut : (bytes : List ℕ) → (bytes ≡ [] → ⊥) → length bytes < max_head → HasNoRequest (take max_head bytes)
+pub part_cut : (bytes : List ℕ) → (bytes ≡ [] → ⊥) → length bytes < max_head
+    → HasNoRequest (take max_head bytes)
     → MayBecomeRequest (take max_head bytes) → IsCutShort bytes
 part_cut bytes some short none unfinished =
     let all : take max_head bytes ≡ bytes = take_all max_head bytes (omega (arith, short)) in
@@ -95,7 +107,8 @@ pub overlong_refused : (bytes : List ℕ) → max_head ≤ length bytes → HasN
     → IsRefused 431 bytes
 overlong_refused bytes long none = inr (inl (refl, inl (long, none)))
 
-pub none_along : (old new : List ℕ) → new ≡ old → HasNoRequest (take max_head old) → HasNoRequest (take max_head new)
+pub none_along : (old new : List ℕ) → new ≡ old → HasNoRequest (take max_head old)
+    → HasNoRequest (take max_head new)
 none_along old new same none =
     let P : List ℕ → Type 0 = λ text. HasNoRequest (take max_head text) in subst P (sym same) none
 
@@ -104,13 +117,15 @@ pub unfinished_along : (old new : List ℕ) → new ≡ old → MayBecomeRequest
 unfinished_along old new same unfinished =
     let P : List ℕ → Type 0 = λ text. MayBecomeRequest (take max_head text) in subst P (sym same) unfinished
 
-pub stops_along : (old new : ℕ) (left : Option (List ℕ)) (first read last : List ℕ) (stop : Stop) → read ≡ first
+pub stops_along : (old new : ℕ) (left : Option (List ℕ)) (first read last : List ℕ) (stop : Stop)
+    → read ≡ first
     → last ≡ first → Stops old new left read stop → Stops old new left last stop
 stops_along old new left first read last stop same kept stops =
     let P : List ℕ → Type 0 = λ text. Stops old new left text stop in subst P (same ∙ sym kept) stops
 
 pub has_head_along : (old new : List ℕ) (found : Head) → new ≡ old → HasHead new found → HasHead old found
-has_head_along old new found same has = let P : List ℕ → Type 0 = λ text. HasHead text found in subst P same has
+has_head_along old new found same has = let P : List ℕ → Type 0 =
+    λ text. HasHead text found in subst P same has
 
 pub refused_along : (old new : List ℕ) (status : ℕ) → new ≡ old → IsRefused status new → IsRefused status old
 refused_along old new status same refused =

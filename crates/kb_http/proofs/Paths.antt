@@ -30,7 +30,8 @@ of_words-other words word rest split other =
     ∙ ap (λ test. if test then of_accounts (pieces slash rest) else Unknown) other)
 
 pub of_words-accounts : (words : List ℕ) (word rest : List ℕ) → pieces slash words ≡ word ∷ pieces slash rest
-    → bytes_eq word (codes "accounts") ≡ true → of_accounts (pieces slash rest) ≡ of_words (pieces slash words)
+    → bytes_eq word (codes "accounts") ≡ true → of_accounts (pieces slash rest)
+    ≡ of_words (pieces slash words)
 of_words-accounts words word rest split same =
     sym (ap of_words split ∙ of_words-more word rest
     ∙ ap (λ test. if test then of_accounts (pieces slash rest) else Unknown) same)
@@ -45,7 +46,8 @@ of_accounts-no_name word more unnamed = by_test (is_name word) (of_account word 
 
 -- the first word is no name
 pub of_accounts-unnamed : (words word : List ℕ) (rest : Option (Bor (List ℕ)))
-    → MatchOption rest (pieces slash words ≡ word ∷ []) (λ more. pieces slash words ≡ word ∷ pieces slash more.now)
+    → MatchOption rest (pieces slash words ≡ word ∷ [])
+    (λ more. pieces slash words ≡ word ∷ pieces slash more.now)
     → (is_name word ≡ true → ⊥) → Unknown ≡ of_accounts (pieces slash words)
 of_accounts-unnamed words word None split unnamed =
     sym (ap of_accounts split ∙ of_accounts-no_name word [] unnamed)

@@ -1,6 +1,8 @@
 -- A request that is taken off the front of what was read.
-use Rattle.std.proofs.Common.{◌≡◌, ℕ, ◌<◌, ◌+◌, ◌||◌, List, ◌++◌, length, take, drop, min, sym, ap, ◌∙◌, subst, inr}
-use Rattle.std.proofs.Common.{append_assoc, take-append-drop, arith, length-take, length-drop, Option, None, Some, Ok}
+use Rattle.std.proofs.Common.{◌≡◌, ℕ, ◌<◌, ◌+◌, ◌||◌, List, ◌++◌, length, take, drop, min, sym, ap, ◌∙◌}
+use Rattle.std.proofs.Common.{subst, inr}
+use Rattle.std.proofs.Common.{append_assoc, take-append-drop, arith, length-take, length-drop, Option, None}
+use Rattle.std.proofs.Common.{Some, Ok}
 use Rattle.std.specs.Prelude.{nat_le}
 use lib.Seq.{drop-append-le}
 use Rattle.std.proofs.Math.Seq.{take-add}
@@ -34,14 +36,16 @@ has_head_more bytes more all found grown (head, whole, short) =
     )
 
 -- such a head is within the limits
-begins : (bytes : List ℕ) (found : Head) (has : HasHead bytes found) → BeginsWith bytes has.0 (drop found.len bytes)
+begins : (bytes : List ℕ) (found : Head) (has : HasHead bytes found)
+    → BeginsWith bytes has.0 (drop found.len bytes)
 begins bytes found (head, whole, short) = record {
   reads = whole.reads;
   short = omega (arith, whole.len, short);
   few = whole.few;
 }
 
-pub lacks_body : (bytes more all : List ℕ) (found : Head) (count : ℕ) → all ≡ bytes ++ more → HasHead bytes found
+pub lacks_body : (bytes more all : List ℕ) (found : Head) (count : ℕ) → all ≡ bytes ++ more
+    → HasHead bytes found
     → found.body ≡ Ok count → length all < found.len + count → IsCutShort all
 lacks_body bytes more all found count grown has told few =
     let later = has_head_more bytes more all found grown has in
@@ -56,20 +60,23 @@ lacks_body bytes more all found count grown has told few =
 
 -- what is taken off the front is one request
 pub is_request : (given : ℕ) (bytes : List ℕ) (found : Head) (count : ℕ) (request : HttpRequest)
-    → HasWhole bytes found count → request.body ≡ take count (drop found.len bytes) → request.route ≡ found.route
+    → HasWhole bytes found count → request.body ≡ take count (drop found.len bytes)
+    → request.route ≡ found.route
     → request.close ≡ (found.close || nat_le max_requests (given + 1))
     → IsRequest given (take (found.len + count) bytes) request
 is_request given bytes found count request (has, told, bound, within) body route close =
     let whole = has.1 in
     let head = has.0 in
     let front : take found.len bytes ≡ print_request head =
-    ap (take found.len) whole.reads.1 ∙ take_at (print_request head) (drop found.len bytes) found.len (sym whole.len) in
+    ap (take found.len) whole.reads.1 ∙ take_at (print_request head) (drop found.len bytes) found.len
+    (sym whole.len) in
     let split : take (found.len + count) bytes ≡ print_request head ++ request.body =
     take-add found.len count bytes ∙ ap (λ text. text ++ take count (drop found.len bytes)) front
     ∙ ap (λ text. print_request head ++ text) (sym body) in
     let sized : length request.body ≡ count =
     ap length body ∙ length-take count (drop found.len bytes)
-    ∙ (let e : min count (length (drop found.len bytes)) ≡ count = omega (arith, within, length-drop found.len bytes) in e) in
+    ∙ (let e : min count (length (drop found.len bytes)) ≡ count =
+    omega (arith, within, length-drop found.len bytes) in e) in
     record {
       head = head;
       begins = record {
@@ -90,4 +97,5 @@ consumes None b old bytes new count kept rest = tt
 consumes (Some x) None old bytes new count kept rest = absurd kept
 consumes (Some x) (Some y) old bytes new count kept rest =
     sym kept ∙ ap (λ text. text ++ y) (sym (take-append-drop count bytes))
-    ∙ append_assoc (take count bytes) (drop count bytes) y ∙ ap (λ text. take count bytes ++ (text ++ y)) (sym rest)
+    ∙ append_assoc (take count bytes) (drop count bytes) y
+    ∙ ap (λ text. take count bytes ++ (text ++ y)) (sym rest)

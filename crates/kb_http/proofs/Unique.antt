@@ -1,5 +1,6 @@
 -- The bytes of a stream are the requests of one list alone.
-use Rattle.std.proofs.Common.{◌≡◌, ℕ, List, [], ◌∷◌, ◌++◌, length, take, drop, refl, sym, ap, ◌∙◌, subst, arith}
+use Rattle.std.proofs.Common.{◌≡◌, ℕ, List, [], ◌∷◌, ◌++◌, length, take, drop, refl, sym, ap, ◌∙◌, subst}
+use Rattle.std.proofs.Common.{arith}
 use Rattle.std.proofs.Common.{Result, Ok, Err}
 use Rattle.std.proofs.lemmas.List.{length-append, take_at, drop_at}
 use Rattle.httparse.specs.Grammar.{ReadsRequest}
@@ -15,8 +16,10 @@ count_of (Ok count) = count
 count_of (Err status) = 0
 
 -- the first request and what stands behind it
-pub one_request : (given : ℕ) (bytes front other more later : List ℕ) (one two : HttpRequest) → bytes ≡ front ++ more
-    → bytes ≡ other ++ later → IsRequest given front one → IsRequest given other two → (one ≡ two) × (more ≡ later)
+pub one_request : (given : ℕ) (bytes front other more later : List ℕ) (one two : HttpRequest)
+    → bytes ≡ front ++ more
+    → bytes ≡ other ++ later → IsRequest given front one → IsRequest given other two → (one ≡ two)
+    × (more ≡ later)
 unfolding count_of
 one_request given bytes front other more later one two split cut is so =
     let P : List ℕ → Type 0 = λ text. ReadsRequest text is.head (one.body ++ more) in
@@ -24,7 +27,8 @@ one_request given bytes front other more later one two split cut is so =
     let first = subst P (sym split) (ReadsRequest-append front is.head one.body more is.begins.reads) in
     let second = subst Q (sym cut) (ReadsRequest-append other so.head two.body later so.begins.reads) in
     let same = request_unique bytes is.head so.head (one.body ++ more) (two.body ++ later) first second in
-    let sized : length one.body ≡ length two.body = ap count_of (sym is.framed ∙ ap framing same.0 ∙ so.framed) in
+    let sized : length one.body ≡ length two.body = ap count_of
+    (sym is.framed ∙ ap framing same.0 ∙ so.framed) in
     let body : one.body ≡ two.body =
     sym (take_at one.body more (length one.body) refl) ∙ ap (take (length one.body)) same.1
     ∙ take_at two.body later (length one.body) (sym sized) in
@@ -37,7 +41,8 @@ one_request given bytes front other more later one two split cut is so =
     (λ i. record { route = route i; body = body i; close = close i }, rest)
 
 -- a request isn't empty
-some_request : (given : ℕ) (bytes front more : List ℕ) (one : HttpRequest) → bytes ≡ [] → bytes ≡ front ++ more
+some_request : (given : ℕ) (bytes front more : List ℕ) (one : HttpRequest) → bytes ≡ []
+    → bytes ≡ front ++ more
     → IsRequest given front one → ⊥
 some_request given bytes front more one none split is =
     let sized = ap length (sym none ∙ split) ∙ length-append front more in
@@ -45,14 +50,16 @@ some_request given bytes front more one none split is =
     omega (arith, sized, whole, head_some is.head is.begins.reads.0)
 
 -- so however a stream is cut, its requests are the same
-pub requests_unique : (given : ℕ) (bytes : List ℕ) (some others : List HttpRequest) → AreRequests given bytes some
+pub requests_unique : (given : ℕ) (bytes : List ℕ) (some others : List HttpRequest)
+    → AreRequests given bytes some
     → AreRequests given bytes others → some ≡ others
 requests_unique given bytes [] [] are so = refl
 requests_unique given bytes [] (two ∷ twos) none (front, more, split, is, are) =
     absurd (some_request given bytes front more two none split is)
 requests_unique given bytes (one ∷ ones) [] (front, more, split, is, are) none =
     absurd (some_request given bytes front more one none split is)
-requests_unique given bytes (one ∷ ones) (two ∷ twos) (front, more, split, is, are) (other, later, cut, so, sos) =
+requests_unique given bytes (one ∷ ones) (two ∷ twos) (front, more, split, is, are)
+    (other, later, cut, so, sos) =
     let same = one_request given bytes front other more later one two split cut is so in
     let P : List ℕ → Type 0 = λ text. AreRequests (given_after given) text ones in
     let rest = requests_unique (given_after given) later ones twos (subst P same.1 are) sos in

@@ -93,7 +93,8 @@ count_after given InputFault = given
 count_after given NoMemory = given
 
 -- What is told where the bytes that are unread begin with a head within the limits: the request or the
--- refusal that it asks for, or that they end within its body. Faults and want of memory have their own causes.
+-- refusal that it asks for, or that they end within its body. Faults and want of memory have their own
+-- causes.
 abbrev pub Meets : RequestHead → List ℕ → HttpNext → Type 0
 Meets head rest (Request request) =
     (framing head ≡ Ok (length request.body)) × ((more : List ℕ) × (rest ≡ request.body ++ more))

@@ -71,9 +71,9 @@ pub fn fill<L: Link>(link: &mut L, pending: &mut Vec<u8>, count: usize) -> Resul
     Ok(true)
 }
 
-/// Reads until the first bytes have come, or further ones with which a head may be whole, or as many as one may
-/// have; false where the link ends before it gives any. So bytes that come one by one aren't looked through from
-/// the first one each time.
+/// Reads until the first bytes have come, or further ones with which a head may be whole, or as many as one
+/// may have; false where the link ends before it gives any. So bytes that come one by one aren't looked
+/// through from the first one each time.
 fn read_to_mark<L: Link>(link: &mut L, pending: &mut Vec<u8>) -> Result<bool, Stop>
     requires short { length pending.old.items < MAX_HEAD }
     ensures ahead { ReadsAhead L.left L.written L.output_faults link.old link.new

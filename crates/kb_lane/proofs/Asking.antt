@@ -1,6 +1,8 @@
 -- A payment is asked for once: what a new command, and an order that is taken off, do to that.
-use Rattle.std.proofs.Common.{◌≡◌, ℕ, ◌≤◌, ◌<◌, arith, true, false, true≢false, ◌&&◌, bytes_eq, List, [], ◌∷◌, ◌++◌}
-use Rattle.std.proofs.Common.{length, get_or, All, IsSome, is_some, Option, Some, None, refl, sym, ap, subst, ◌∙◌, inl, inr}
+use Rattle.std.proofs.Common.{◌≡◌, ℕ, ◌≤◌, ◌<◌, arith, true, false, true≢false, ◌&&◌, bytes_eq, List, [], ◌∷◌}
+use Rattle.std.proofs.Common.{◌++◌}
+use Rattle.std.proofs.Common.{length, get_or, All, IsSome, is_some, Option, Some, None, refl, sym, ap, subst}
+use Rattle.std.proofs.Common.{◌∙◌, inl, inr}
 use Rattle.std.proofs.lemmas.Bool.{cases_Bool, and_parts}
 use Rattle.std.proofs.lemmas.List.{append_assoc, append-nil, get_or_append_left, length-append}
 use Rattle.std.proofs.lemmas.List.Elements.{All-append, All-push, All-head, All-tail, All-weaker, All-nil}
@@ -98,11 +100,13 @@ module _ (machine : MachineValue) (today : ℕ) (command : Command) (keyed : Are
       let found = attempt-there (attempt_asked machine one) there in
       elim (cases_Bool (settles command one.account one.key)) [
         | inl settled ↦ settled-stays machine today command one found.0 new found.1 settled
-        | inr free ↦ ap is_some (attempts_stay machine today command one.account one.key found.0 keyed last found.1 free)
+        | inr free ↦ ap is_some (attempts_stay machine today command one.account one.key found.0 keyed
+            last found.1 free)
       ]
 
   -- and nothing is known of it yet, if the command doesn't settle it
-  begun-stays : (one : Asked) → IsBegun (attempt_asked machine one) → settles command one.account one.key ≡ false
+  begun-stays : (one : Asked) → IsBegun (attempt_asked machine one)
+      → settles command one.account one.key ≡ false
       → IsBegun (attempt_asked (entry_after machine (today, command)) one)
   begun-stays one begun free =
       let found = attempt-there (attempt_asked machine one) (begun_there (attempt_asked machine one) begun) in
@@ -117,7 +121,8 @@ module _ (machine : MachineValue) (today : ℕ) (command : Command) (keyed : Are
     kept-once = record {
       apart = once.apart;
       asked = All-weaker (λ (one : Asked). IsSome (attempt_asked machine one))
-          (λ (one : Asked). IsSome (attempt_asked (entry_after machine (today, command)) one)) some-stays own once.asked;
+          (λ (one : Asked). IsSome (attempt_asked (entry_after machine (today, command)) one)) some-stays
+          own once.asked;
       waiting = λ k d inside. begun-stays (get_or waiting k d) (once.waiting k d inside) (free k d inside);
       since = once.since;
       stay = λ one there. some-stays one (once.stay one there);
@@ -131,15 +136,21 @@ module _ (machine : MachineValue) (today : ℕ) (command : Command) (keyed : Are
         let there : HaveAttempts machine (own ++ waiting) =
         All-append (λ (one : Asked). IsSome (attempt_asked machine one)) own waiting once.asked
         (All-weaker (λ (one : Asked). IsBegun (attempt_asked machine one))
-        (λ (one : Asked). IsSome (attempt_asked machine one)) (λ one held. begun_there (attempt_asked machine one) held) waiting once.waiting) in
-        let same : own ++ (waiting ++ asked ∷ []) ≡ (own ++ waiting) ++ asked ∷ [] = sym (append_assoc own waiting (asked ∷ [])) in
+        (λ (one : Asked). IsSome (attempt_asked machine one))
+        (λ one held. begun_there (attempt_asked machine one) held) waiting once.waiting) in
+        let same : own ++ (waiting ++ asked ∷ []) ≡ (own ++ waiting) ++ asked ∷ [] =
+        sym (append_assoc own waiting (asked ∷ [])) in
         record {
-          apart = rw same (all_pairs_push (λ (one other : Asked). one ≡ other → ⊥) (own ++ waiting) asked once.apart
-              (λ k d inside. other-there machine asked none (get_or (own ++ waiting) k d) (there k d inside)));
+          apart = rw same (all_pairs_push (λ (one other : Asked). one ≡ other → ⊥) (own ++ waiting)
+              asked once.apart
+              (λ k d inside. other-there machine asked none (get_or (own ++ waiting) k d)
+              (there k d inside)));
           asked = kept-once.asked;
-          waiting = All-push (λ (one : Asked). IsBegun (attempt_asked (entry_after machine (today, command)) one)) waiting
+          waiting = All-push (λ (one : Asked). IsBegun (attempt_asked
+              (entry_after machine (today, command)) one)) waiting
               asked kept-once.waiting begun;
-          since = rw same (All-push (λ (one : Asked). attempt_asked first one ≡ None) (own ++ waiting) asked once.since
+          since = rw same (All-push (λ (one : Asked). attempt_asked first one ≡ None) (own ++ waiting)
+              asked once.since
               absent);
           stay = kept-once.stay;
         }
@@ -169,11 +180,13 @@ module _ (machine : MachineValue) (today : ℕ) (command : Command) (keyed : Are
 pub asked_once : (first later : MachineValue) (own waiting : List Asked) (asked : Asked)
     → AsksOnce first later own (asked ∷ waiting) → AsksOnce first later (own ++ asked ∷ []) waiting
 asked_once first later own waiting asked once =
-    let same : (own ++ asked ∷ []) ++ waiting ≡ own ++ (asked ∷ waiting) = append_assoc own (asked ∷ []) waiting in
+    let same : (own ++ asked ∷ []) ++ waiting ≡ own ++ (asked ∷ waiting) =
+    append_assoc own (asked ∷ []) waiting in
     record {
       apart = rw same once.apart;
       asked = All-push (λ (one : Asked). IsSome (attempt_asked later one)) own asked once.asked
-          (begun_there (attempt_asked later asked) (All-head (λ (one : Asked). IsBegun (attempt_asked later one)) asked waiting once.waiting));
+          (begun_there (attempt_asked later asked) (All-head
+          (λ (one : Asked). IsBegun (attempt_asked later one)) asked waiting once.waiting));
       waiting = All-tail (λ (one : Asked). IsBegun (attempt_asked later one)) asked waiting once.waiting;
       since = rw same once.since;
       stay = once.stay;
@@ -209,8 +222,11 @@ ends_note old None own note ends notes all is = absurd (cc)
 ends_note None (Some after) own note ends notes all is = absurd notes
 ends_note (Some prior) (Some after) own note ends notes all is =
     let parts = ends prior refl in
-    let same : after ≡ all = cc in
-    (parts.0, sym same ∙ notes ∙ ap (λ asked. asked ++ note ∷ []) parts.1 ∙ append_assoc parts.0 own (note ∷ []))
+    let same : after ≡ all = cc in (
+      parts.0,
+      sym same ∙ notes ∙ ap (λ asked. asked ++ note ∷ []) parts.1
+          ∙ append_assoc parts.0 own (note ∷ []),
+    )
 
 -- nothing was asked since a lane was opened
 pub none_asked : (machine : MachineValue) → AsksOnce machine machine [] []
@@ -228,7 +244,8 @@ ends_anyhow asked all is = (all, sym (append-nil all))
 -- a settlement of one payment settles no other one
 pub settles_other : (account key : List ℕ) (status : Status) (one : Asked)
     → (asked_for (account, key) ≡ one → ⊥)
-    → settles (kinds.Settle (record { account = account; payment = key; status = status })) one.account one.key
+    → settles (kinds.Settle (record { account = account; payment = key; status = status }))
+    one.account one.key
     ≡ false
 settles_other account key status one other =
     elim (cases_Bool (bytes_eq one.account account && bytes_eq one.key key)) [

@@ -1,5 +1,6 @@
 -- The settlement that is at the place of an answer is the one that the answer asks for.
-use Rattle.std.proofs.Common.{ℕ, ◌≡◌, List, [], ◌∷◌, None, Some, Result, Ok, Err, length, slice_index_or, sym, ap, subst, ◌∙◌}
+use Rattle.std.proofs.Common.{ℕ, ◌≡◌, List, [], ◌∷◌, None, Some, Result, Ok, Err, length, slice_index_or, sym}
+use Rattle.std.proofs.Common.{ap, subst, ◌∙◌}
 use Rattle.kb_base.specs.declared.fault.Failed.{Failed}
 use Rattle.kb_gateway.specs.declared.told.Told.{Told}
 use Rattle.kb_gateway.specs.declared.told.Told.TheVariants as told
@@ -15,10 +16,12 @@ module _ (machine : MachineValue) (today : ℕ) (account key : List ℕ) (ready 
     (are : AreReady machine today account key ready) (one : Settlement) where
   -- what stands at a place
   at-place : (place other : ℕ) → place ≡ other → one ≡ slice_index_or ready.each.items other one
-      → one ≡ slice_index_or (are.success ∷ are.pending ∷ are.payment_failure ∷ are.plugin_failure ∷ []) place one
+      → one ≡ slice_index_or (are.success ∷ are.pending ∷ are.payment_failure ∷ are.plugin_failure
+      ∷ []) place one
   at-place place other same at =
       at ∙ ap (λ all. slice_index_or all other one) are.all
-      ∙ ap (λ it. slice_index_or (are.success ∷ are.pending ∷ are.payment_failure ∷ are.plugin_failure ∷ []) it one)
+      ∙ ap (λ it. slice_index_or (are.success ∷ are.pending ∷ are.payment_failure
+      ∷ are.plugin_failure ∷ []) it one)
       (sym same)
 
   is-ready : (to : Status) (other : Settlement) → one ≡ other → IsReady machine today account key to other

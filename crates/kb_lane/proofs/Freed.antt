@@ -1,5 +1,6 @@
 -- Commands that settle no payment.
-use Rattle.std.proofs.Common.{◌≡◌, ℕ, Bool, true, false, true≢false, List, Option, Some, None, if◌then◌else◌, refl, sym}
+use Rattle.std.proofs.Common.{◌≡◌, ℕ, Bool, true, false, true≢false, List, Option, Some, None, if◌then◌else◌}
+use Rattle.std.proofs.Common.{refl, sym}
 use Rattle.std.proofs.lemmas.Option.{none-some}
 use Rattle.kb_codec.specs.declared.command.Command.{Command}
 use Rattle.kb_codec.specs.declared.command.Command.TheVariants as kinds
@@ -42,4 +43,5 @@ module _ (world : WorldValue) (book : BookValue) (today : ℕ) (command : Comman
 
 pub due_settles_none : (world : WorldValue) (book : BookValue) (today : ℕ) (command : Command)
     (outbox : List Work) → next_due world book today ≡ Some command → SettlesNone command outbox
-due_settles_none world book today command outbox next = λ k d inside. due-settles world book today command _ _ next
+due_settles_none world book today command outbox next =
+    λ k d inside. due-settles world book today command _ _ next

@@ -1,5 +1,6 @@
 -- What each step does to a log, and what a run of steps does.
-use Rattle.std.proofs.Common.{◌≡◌, ℕ, ◌≤◌, ◌⊎◌, ◌&&◌, ◌++◌, arith, inl, inr, Bool, true, false, true≢false, List, [], ◌∷◌, Option, None, Some, refl, sym, ap, subst, ◌∙◌}
+use Rattle.std.proofs.Common.{◌≡◌, ℕ, ◌≤◌, ◌⊎◌, ◌&&◌, ◌++◌, arith, inl, inr, Bool, true, false, true≢false}
+use Rattle.std.proofs.Common.{List, [], ◌∷◌, Option, None, Some, refl, sym, ap, subst, ◌∙◌}
 use Rattle.std.proofs.lemmas.Bool.{and_parts, cases_Bool}
 use Rattle.std.proofs.lemmas.List.{append-nil}
 use Rattle.std.proofs.lemmas.List.Sums.{fold-append}
@@ -17,7 +18,8 @@ use Rattle.kb_lane.specs.Lanes.{LaneValue, StandsThroughout, StandsWithin, Stays
 use Rattle.kb_lane.specs.Going.{GoesWell}
 use Rattle.kb_lane.specs.Replies.{Takes, IsMarked, IsReply, Performs, is_accepted, is_taken}
 use Rattle.kb_lane.specs.Draining.{Writes, Accepts, IsWritten}
-use Rattle.kb_lane.proofs.Within.{past_none, past_one, past_then, within_mark, within_past, within_then, goes_on}
+use Rattle.kb_lane.proofs.Within.{past_none, past_one, past_then, within_mark, within_past, within_then}
+use Rattle.kb_lane.proofs.Within.{goes_on}
 
 module _ {D : Type 0} (honest : D → Bool) (moment : D → ℕ) (left_since : D → ℕ → List ℕ → Type 0) where
   -- nothing is written
@@ -56,11 +58,13 @@ module _ {D : Type 0} (honest : D → Bool) (moment : D → ℕ) (left_since : D
         within (inl stopped) =
             let P : LogValue D → Type 0 = λ log. StandsWithin honest moment left_since old log in
             subst P (sym (second.still stopped)) first.within
-        within (inr goes) = within_then honest moment left_since old middle new (first.past goes) goes as_honest
+        within (inr goes) = within_then honest moment left_since old middle new (first.past goes)
+            goes as_honest
             first.further second.further lanes lane second.within
 
   module _ {G : Type 0} (fault_count : D → ℕ) (old new : LaneValue D G) (entry : Entry)
-      (lanes : new.log.journal.lanes ≡ old.log.journal.lanes) (lane : new.log.journal.lane ≡ old.log.journal.lane) where
+      (lanes : new.log.journal.lanes ≡ old.log.journal.lanes)
+      (lane : new.log.journal.lane ≡ old.log.journal.lane) where
     -- a command is taken
     well-takes : Takes old new entry → StandsThroughout honest moment left_since old.log new.log entry
         → GoesWell honest moment left_since old.log new.log
@@ -79,7 +83,8 @@ module _ {D : Type 0} (honest : D → Bool) (moment : D → ℕ) (left_since : D
         → GoesWell honest moment left_since old.log new.log
     well-marked marks stands = record {
       further = ([], marks.history ∙ sym (append-nil old.log.history));
-      within = within_mark honest moment left_since old.log new.log entry lanes lane stands marks.history marks.marked;
+      within = within_mark honest moment left_since old.log new.log entry lanes lane stands
+          marks.history marks.marked;
       past = λ running. absurd (true≢false (sym marks.stopped ∙ running));
       still = λ stopped. absurd (true≢false (sym stopped ∙ marks.may.0));
     }
@@ -98,9 +103,11 @@ module _ {D : Type 0} (honest : D → Bool) (moment : D → ℕ) (left_since : D
     well_writes steps.NoMemory writes moments = well_none old.log new.log writes.0
 
   module _ {G : Type 0} (fault_count : D → ℕ) (old new : LaneValue D G) (today : ℕ)
-      (lanes : new.log.journal.lanes ≡ old.log.journal.lanes) (lane : new.log.journal.lane ≡ old.log.journal.lane) where
+      (lanes : new.log.journal.lanes ≡ old.log.journal.lanes)
+      (lane : new.log.journal.lane ≡ old.log.journal.lane) where
     -- one that writes a command, if there is one
-    pub well_accepts : (command : Option Command) (step : Step) → Accepts fault_count old new today command step
+    pub well_accepts : (command : Option Command) (step : Step)
+        → Accepts fault_count old new today command step
         → ((other : Entry) → IsWritten old.log new.log other
         → StandsThroughout honest moment left_since old.log new.log other)
         → GoesWell honest moment left_since old.log new.log
@@ -109,7 +116,8 @@ module _ {D : Type 0} (honest : D → Bool) (moment : D → ℕ) (left_since : D
         well_writes fault_count old new (today, command) lanes lane step accepts moments
 
     -- a command that is performed
-    pub well_performs : (command : Command) (reply : LaneReply) → Performs fault_count old new today command reply
+    pub well_performs : (command : Command) (reply : LaneReply)
+        → Performs fault_count old new today command reply
         → (is_new (judged (machine_of old) today command) ≡ true → (reply ≡ replies.NoMemory → ⊥)
         → StandsThroughout honest moment left_since old.log new.log (today, command))
         → GoesWell honest moment left_since old.log new.log
@@ -126,7 +134,8 @@ module _ {D : Type 0} (honest : D → Bool) (moment : D → ℕ) (left_since : D
 
         taken-memory : (told : Judged LaneReply MachineValue) (reply : LaneReply) → is_taken told reply ≡ true
             → reply ≡ replies.NoMemory → ⊥
-        taken-memory told reply taken memory = absurd (true≢false (sym taken ∙ ap (is_taken told) memory ∙ none (is_new told)))
+        taken-memory told reply taken memory = absurd (true≢false
+            (sym taken ∙ ap (is_taken told) memory ∙ none (is_new told)))
           where
             none : (one : Bool) → (one && false) ≡ false
             none true = refl

@@ -10,7 +10,8 @@ use Rattle.kb_machine.proofs.Replays.{replay_new, fresh_new}
 use Rattle.kb_lane.specs.Private.Replays.{IsReplay}
 use Rattle.kb_lane.proofs.Places.{next_place}
 
-pub grows : (machine after : MachineValue) (history : History) (today : ℕ) (command : Command) (reply : LaneReply)
+pub grows : (machine after : MachineValue) (history : History) (today : ℕ) (command : Command)
+    (reply : LaneReply)
     (bytes : List ℕ) (place next : ℕ)
     → IsReplay machine history place → judged machine today command ≡ New reply after
     → payload (today, command) ≡ bytes → next ≡ place + (length bytes + 5)

@@ -1,5 +1,6 @@
 -- What always holds of a lane, after a command.
-use Rattle.std.proofs.Common.{◌≡◌, ℕ, ◌≤◌, ◌<◌, ◌^◌, arith, List, [], ◌∷◌, ◌++◌, length, take, map, Option, IsSome, refl, sym, ap, subst, ◌∙◌}
+use Rattle.std.proofs.Common.{◌≡◌, ℕ, ◌≤◌, ◌<◌, ◌^◌, arith, List, [], ◌∷◌, ◌++◌, length, take, map, Option}
+use Rattle.std.proofs.Common.{IsSome, refl, sym, ap, subst, ◌∙◌}
 use Rattle.std.proofs.lemmas.List.{length-append, map-append}
 use Rattle.std.proofs.lemmas.Grind.{common_steps}
 use Rattle.std.proofs.lemmas.List.Elements.{All-head}
@@ -53,7 +54,8 @@ module _ {D G : Type 0} (told : G → Option (List Asked)) (machine : MachineVal
         told = rw nothing (ends_anyhow (told gateway));
       }
 
-module _ {D G : Type 0} (told : G → Option (List Asked)) (machine : MachineValue) (old : LaneValue D G) (log : LogValue D)
+module _ {D G : Type 0} (told : G → Option (List Asked)) (machine : MachineValue) (old : LaneValue D G)
+    (log : LogValue D)
     (kept : IsLane told machine old) (opened : log.opened ≡ old.log.opened) where
   -- the history is as it was
   pub lane_stays : log.history ≡ old.log.history → IsLane told machine (record old { log = log })
@@ -70,21 +72,29 @@ module _ {D G : Type 0} (told : G → Option (List Asked)) (machine : MachineVal
       (now : MachineValue) (outbox : List Work)
       → judged (machine_of old) today command ≡ New reply after → now ≡ after → today ≤ last_day
       → length old.log.history < 2 ^ 32 → SettlesNone command old.outbox
-      → log.history ≡ old.log.history ++ (today, command) ∷ [] → outbox ≡ old.outbox ++ work_of (today, command)
+      → log.history ≡ old.log.history ++ (today, command) ∷ []
+      → outbox ≡ old.outbox ++ work_of (today, command)
       → IsLane told now (record old { log = log; outbox = outbox })
   lane_grows today command reply after now outbox new is last few free grown works =
       let led : replay log.history ≡ after
       = ap replay grown ∙ replay_new old.log.history today command reply after new in
       let same : entry_after (machine_of old) (today, command) ≡ after = rw new refl in
       let first : replay (take log.opened log.history) ≡ opened_of old
-      = rw (opened, grown) (ap replay (take-more old.log.opened old.log.history ((today, command) ∷ []) kept.early)) in
+      = rw (opened, grown) (ap replay (take-more old.log.opened old.log.history ((today, command) ∷ [])
+      kept.early)) in
       record {
         replayed = is ∙ sym led;
         fresh = subst (AreNewFrom no_machine) (sym grown)
             (fresh_new old.log.history today command reply after kept.fresh new);
-        early = rw (opened, grown) (omega (arith, kept.early, length-append old.log.history ((today, command) ∷ [])));
+        early = rw (opened, grown) (omega (
+          arith,
+          kept.early,
+          length-append old.log.history
+              ((today, command) ∷ []),
+        ));
         once = rw (first, led, works, asks_append old.outbox (work_of (today, command)), sym same)
-            (asks_grow (machine_of old) today command (replays_are_keyed old.log.history (omega (arith, few))) last
+            (asks_grow (machine_of old) today command (replays_are_keyed old.log.history (omega (arith, few)))
+            last
             (rw new refl) (opened_of old) old.own (asks_in old.outbox) kept.once free);
         told = kept.told;
       }
@@ -92,7 +102,8 @@ module _ {D G : Type 0} (told : G → Option (List Asked)) (machine : MachineVal
 -- one more payment was asked for
 pub own_noted : (own next : List (List ℕ × List ℕ)) (account key : List ℕ) → next ≡ own ++ (account, key) ∷ []
     → map asked_for next ≡ map asked_for own ++ asked_for (account, key) ∷ []
-own_noted own next account key grown = ap (map asked_for) grown ∙ map-append asked_for own ((account, key) ∷ [])
+own_noted own next account key grown = ap (map asked_for) grown
+    ∙ map-append asked_for own ((account, key) ∷ [])
 
 -- the gateway is asked for what stands at the front of the outbox
 module _ {D G : Type 0} (told : G → Option (List Asked)) (machine : MachineValue) (old : LaneValue D G)
@@ -107,7 +118,8 @@ module _ {D G : Type 0} (told : G → Option (List Asked)) (machine : MachineVal
     early = kept.early;
     once = rw (rest, owned) (asked_once (opened_of old) (machine_of old) old.own (asks_in later)
         (asked_for (account, key)) (rw front at kept.once));
-    told = rw owned (ends_note (told old.gateway) (told gateway) old.own (asked_for (account, key)) kept.told noted);
+    told = rw owned (ends_note (told old.gateway) (told gateway) old.own (asked_for (account, key))
+        kept.told noted);
   }
 
   -- and its settlement settles none that is left

@@ -1,5 +1,6 @@
 -- A step that is done takes work off a lane.
-use Rattle.std.proofs.Common.{◌≡◌, ℕ, ◌+◌, ◌≤◌, ◌<◌, ◌^◌, arith, Bool, true, false, true≢false, ◌||◌, bytes_eq, List, [], ◌∷◌, ◌++◌}
+use Rattle.std.proofs.Common.{◌≡◌, ℕ, ◌+◌, ◌≤◌, ◌<◌, ◌^◌, arith, Bool, true, false, true≢false, ◌||◌}
+use Rattle.std.proofs.Common.{bytes_eq, List, [], ◌∷◌, ◌++◌}
 use Rattle.std.proofs.Common.{length, sum_by, Option, None, Some, Result, Ok, Err, refl, sym, ap, subst, ◌∙◌}
 use Rattle.std.proofs.lemmas.Option.{none-some}
 use Rattle.std.proofs.lemmas.List.Folds.{list_any-append}
@@ -49,7 +50,8 @@ left-work today (kinds.Auto c) = refl
 left-work today command = refl
 
 -- it is for the account of the command
-left-named : (today : ℕ) (command : Command) (account : List ℕ) → is_named (work_of (today, command)) account ≡ true
+left-named : (today : ℕ) (command : Command) (account : List ℕ)
+    → is_named (work_of (today, command)) account ≡ true
     → bytes_eq account (account_of command) ≡ true
 left-named today (kinds.Catalog c) account is = absurd (true≢false (sym is))
 left-named today (kinds.OverdueRules c) account is = absurd (true≢false (sym is))
@@ -92,7 +94,8 @@ module _ (front : Work) (later : List Work) (account : List ℕ) where
   after-named today command same is =
       or-cases (is_named later account) (is_named (work_of (today, command)) account)
       (is_named (front ∷ later) account ≡ true) later-named at-front
-      (sym (list_any-append (λ entry. bytes_eq account (account_in entry)) later (work_of (today, command))) ∙ is)
+      (sym (list_any-append (λ entry. bytes_eq account (account_in entry)) later (work_of (today, command)))
+      ∙ is)
     where
       at-front : is_named (work_of (today, command)) account ≡ true → is_named (front ∷ later) account ≡ true
       at-front left =
@@ -109,8 +112,10 @@ module _ {D G : Type 0} (old new : LaneValue D G) (today : ℕ) (front : Work) (
   dropped-less : 1 ≤ entry_work front → new.log ≡ old.log → new.outbox ≡ later
       → lane_work today new < lane_work today old
   dropped-less some log rest =
-      let fewer : all_work (is_named later) today (machine_of old) ≤ all_work (is_named old.outbox) today (machine_of old)
-      = subst (λ outbox. all_work (is_named later) today (machine_of old) ≤ all_work (is_named outbox) today (machine_of old))
+      let fewer : all_work (is_named later) today (machine_of old)
+      ≤ all_work (is_named old.outbox) today (machine_of old)
+      = subst (λ outbox. all_work (is_named later) today (machine_of old)
+      ≤ all_work (is_named outbox) today (machine_of old))
       (sym first)
       (fewer_names_have_no_more (machine_of old) today (is_named later) (is_named (front ∷ later))
       (λ account is. later-named front later account is)) in
@@ -123,7 +128,8 @@ module _ {D G : Type 0} (old new : LaneValue D G) (today : ℕ) (front : Work) (
   -- the front is off, and a command for its account is written down, which takes work off
   taken-less : (command : Command) → account_of command ≡ account_in front
       → Takes (with_outbox old later) new (today, command)
-      → all_work (is_named old.outbox) today (entry_after (machine_of old) (today, command)) + work_left command
+      → all_work (is_named old.outbox) today (entry_after (machine_of old) (today, command)) +
+      work_left command
       < all_work (is_named old.outbox) today (machine_of old) + entry_work front
       → lane_work today new < lane_work today old
   taken-less command same takes less =
@@ -135,7 +141,8 @@ module _ {D G : Type 0} (old new : LaneValue D G) (today : ℕ) (front : Work) (
       ∙ ap (λ steps. sum_by entry_work later + steps) (left-work today command) in
       let fewer : all_work (is_named new.outbox) today (machine_of new)
       ≤ all_work (is_named old.outbox) today (entry_after (machine_of old) (today, command))
-      = rw (after, takes.outbox, first) (fewer_names_have_no_more (entry_after (machine_of old) (today, command)) today
+      = rw (after, takes.outbox, first) (fewer_names_have_no_more
+      (entry_after (machine_of old) (today, command)) today
       (is_named (later ++ work_of (today, command))) (is_named (front ∷ later))
       (λ account is. after-named front later account today command same is)) in
       lower _ _ _ _ _ _ _ _ front-work entries fewer less
@@ -157,11 +164,13 @@ settled-is account key (Ok told.Canceled) command is = (status.PluginFailure, cc
 settled-is account key (Ok told.Undefined) command is = absurd (none-some command is)
 settled-is account key (Err failed) command is = absurd (none-some command is)
 
-module _ {D G : Type 0} (fault_count : D → ℕ) (asked : G → Option (List Asked)) (said : G → Option (List Saying))
+module _ {D G : Type 0} (fault_count : D → ℕ) (asked : G → Option (List Asked))
+    (said : G → Option (List Saying))
     (faults : G → ℕ) (old new : LaneValue D G) (today : ℕ) (last : today ≤ last_day)
     (few : length old.log.history < 2 ^ 64) where
   looks-take : (account : List ℕ) (later : List Work) → old.outbox ≡ Check account ∷ later
-      → Looks fault_count old new today (Check account) later (due_of (machine_of old) today account) steps.Done
+      → Looks fault_count old new today (Check account) later
+      (due_of (machine_of old) today account) steps.Done
       → lane_work today new < lane_work today old
   looks-take account later first looks = by_book (book_of (machine_of old) account) refl looks
     where
@@ -175,7 +184,8 @@ module _ {D G : Type 0} (fault_count : D → ℕ) (asked : G → Option (List As
       by_due book (Some command) there next looks =
           let machine = machine_of old in
           let own : AreNamed machine = replays_are_named old.log.history in
-          let named : is_named old.outbox account ≡ true = rw (first, (bytes_eq-Decides account account).1 refl) refl in
+          let named : is_named old.outbox account ≡ true =
+          rw (first, (bytes_eq-Decides account account).1 refl) refl in
           taken-less old new today (Check account) later first command
           (due_commands_are_named machine today account book command own there next) looks.0
           (taken _ _ _ (due_commands_take_work machine today (is_named old.outbox) account book command own
@@ -185,7 +195,8 @@ module _ {D G : Type 0} (fault_count : D → ℕ) (asked : G → Option (List As
           taken after left before less = omega (arith, less)
 
       by_book : (found : Option BookValue) → book_of (machine_of old) account ≡ found
-          → Looks fault_count old new today (Check account) later (due_in (machine_of old) today found) steps.Done
+          → Looks fault_count old new today (Check account) later
+          (due_in (machine_of old) today found) steps.Done
           → lane_work today new < lane_work today old
       by_book None there looks =
           dropped-less old new today (Check account) later first (omega arith) (ap (λ lane. lane.log) looks.1)
@@ -224,7 +235,8 @@ module _ {D G : Type 0} (fault_count : D → ℕ) (asked : G → Option (List As
       → step ≡ steps.Done → lane_work today new < lane_work today old
   front_takes_work (Check account) later step first looks orders done =
       let P : Step → Type 0
-      = λ it. Looks fault_count old new today (Check account) later (due_of (machine_of old) today account) it in
+      = λ it. Looks fault_count old new today (Check account) later
+      (due_of (machine_of old) today account) it in
       looks-take account later first (subst P done (looks account later first))
   front_takes_work (Ask account key) later step first looks orders done =
       let P : Step → Type 0 = λ it. Orders fault_count asked said faults old new today account key later it in

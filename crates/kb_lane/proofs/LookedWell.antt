@@ -1,5 +1,6 @@
 -- What the look-up of a payment does to a log.
-use Rattle.std.proofs.Common.{◌≡◌, ℕ, Bool, true, false, true≢false, Option, None, Some, List, refl, sym, ap, ◌∙◌}
+use Rattle.std.proofs.Common.{◌≡◌, ℕ, Bool, true, false, true≢false, Option, None, Some, List, refl, sym, ap}
+use Rattle.std.proofs.Common.{◌∙◌}
 use Rattle.kb_codec.specs.declared.command.Command.{Command}
 use Rattle.kb_gateway.specs.declared.order.Asked.{Asked}
 use Rattle.kb_gateway.specs.declared.told.Saying.{Saying}
@@ -23,7 +24,8 @@ module _ {D G : Type 0} (honest : D → Bool) (moment : D → ℕ) (left_since :
   left None step accepts done running = done accepts.0
   left (Some command) steps.Idle accepts done running = elim accepts [ ]
   left (Some command) steps.Done accepts done running = done refl
-  left (Some command) steps.DiskFault accepts done running = absurd (true≢false (sym accepts.stopped ∙ running))
+  left (Some command) steps.DiskFault accepts done running =
+      absurd (true≢false (sym accepts.stopped ∙ running))
   left (Some command) (steps.Stopped count) accepts done running =
       past_none honest moment left_since old.log new.log accepts.2.0
   left (Some command) (steps.Full commands size) accepts done running =

@@ -1,6 +1,7 @@
 -- What a look-up leaves: the other payments are as they were.
 use Rattle.std.proofs.Common.{◌≡◌, ℕ, Bool, true, false, true≢false, not, List, [], ◌∷◌, ◌++◌, filter, map}
-use Rattle.std.proofs.Common.{◌<◌, ◌≤◌, ◌+◌, zero, suc, drop, take, arith, flat_map, length, get_or, All, Option, Some, None, Result, Ok, Err, refl, sym, ap, subst, ◌∙◌, inl, inr}
+use Rattle.std.proofs.Common.{◌<◌, ◌≤◌, ◌+◌, zero, suc, drop, take, arith, flat_map, length, get_or, All}
+use Rattle.std.proofs.Common.{Option, Some, None, Result, Ok, Err, refl, sym, ap, subst, ◌∙◌, inl, inr}
 use Rattle.std.proofs.Common.{if◌then◌else◌}
 use Rattle.std.specs.List.{list_any}
 use Rattle.std.proofs.lemmas.Bool.{cases_Bool}
@@ -109,7 +110,8 @@ news_differ present (Ok answer) status is =
     one same = cc
 
 -- a lane that runs doesn't tell that it has stopped
-module _ {D G : Type 0} (fault_count : D → ℕ) (asked : G → Option (List Asked)) (said : G → Option (List Saying))
+module _ {D G : Type 0} (fault_count : D → ℕ) (asked : G → Option (List Asked))
+    (said : G → Option (List Saying))
     (faults : G → ℕ) (today : ℕ) (old new : LaneValue D G) (one : Asked) where
   accepts-running : (command : Option Command) (count : ℕ) → old.log.journal.stopped ≡ false
       → Accepts fault_count old new today command (steps.Stopped count) → ⊥
@@ -131,7 +133,8 @@ pub all_taken : {A : Type 0} (items : List A) (place : ℕ) → length items ≤
 all_taken [] zero done = refl
 all_taken [] (suc place) done = refl
 all_taken (first ∷ later) zero done = absurd (omega (arith, done))
-all_taken (first ∷ later) (suc place) done = ap (λ more. first ∷ more) (all_taken later place (omega (arith, done)))
+all_taken (first ∷ later) (suc place) done = ap (λ more. first ∷ more)
+    (all_taken later place (omega (arith, done)))
 
 -- what is done with an item goes before what is done with those behind it
 module _ {L A : Type 0} (Handles : L → L → A → Step → Type 0) where
@@ -156,12 +159,14 @@ module _ (payments : List Asked) (place : ℕ) (item : Asked) (inside : place < 
     (is : item ≡ get_or payments place item) (before : MachineValue)
     (opened : All (λ (one : Asked). IsOpen (attempt_asked before one)) (drop place payments)) where
   here : All (λ (one : Asked). IsOpen (attempt_asked before one)) (item ∷ drop (suc place) payments)
-  here = subst (All (λ (one : Asked). IsOpen (attempt_asked before one))) (next_item payments place item inside is)
+  here = subst (All (λ (one : Asked). IsOpen (attempt_asked before one)))
+      (next_item payments place item inside is)
       opened
 
   -- the next payment is open
   pub front_open : IsOpen (attempt_asked before item)
-  front_open = All-head (λ (one : Asked). IsOpen (attempt_asked before one)) item (drop (suc place) payments) here
+  front_open = All-head (λ (one : Asked). IsOpen (attempt_asked before one)) item
+      (drop (suc place) payments) here
 
   -- and those behind it stay so, if it is none of them
   pub later_open : (after : MachineValue) → AreApart payments
@@ -177,7 +182,8 @@ module _ (payments : List Asked) (place : ℕ) (item : Asked) (inside : place < 
       subst (λ from. All (λ (one : Asked). IsOpen (attempt_asked after one)) (drop from payments)) further
       (λ k d within. subst IsOpen (sym (others (get_or (drop (suc place) payments) k d)
       (pairs_head (λ (one other : Asked). one ≡ other → ⊥) item (drop (suc place) payments) next k d within)))
-      (All-tail (λ (one : Asked). IsOpen (attempt_asked before one)) item (drop (suc place) payments) here k d within))
+      (All-tail (λ (one : Asked). IsOpen (attempt_asked before one)) item (drop (suc place) payments)
+      here k d within))
 
 -- what each item of a list adds, one after another
 module _ {A B : Type 0} (one : A → List B) (each : List A → List B)

@@ -1,5 +1,6 @@
 -- What is left of a list from a place on.
-use Rattle.std.proofs.Common.{◌≡◌, ◌≤◌, ◌<◌, ℕ, zero, suc, List, [], ◌∷◌, length, get_or, drop, arith, refl, sym, ap}
+use Rattle.std.proofs.Common.{◌≡◌, ◌≤◌, ◌<◌, ℕ, zero, suc, List, [], ◌∷◌, length, get_or, drop, arith, refl}
+use Rattle.std.proofs.Common.{sym, ap}
 
 -- the item at a place stands in front of those behind it
 pub next_item : {A : Type 0} (items : List A) (place : ℕ) (item : A) → place < length items

@@ -8,7 +8,8 @@ use Rattle.kb_machine.specs.declared.change.Change.{Change}
 use Rattle.kb_machine.specs.declared.change.Change.TheVariants as changes
 use Rattle.kb_machine.specs.Judged.{Judged, New, Again, Refused, lifted}
 use Rattle.kb_machine.specs.Texts.{catalog_judged, overdue_judged}
-use Rattle.kb_machine.specs.Machines.{MachineValue, judged, reply_of, with_texts, with_book, by_book, book_of, account_of}
+use Rattle.kb_machine.specs.Machines.{MachineValue, judged, reply_of, with_texts, with_book, by_book, book_of}
+use Rattle.kb_machine.specs.Machines.{account_of}
 use Rattle.kb_machine.specs.Plans.{change_reply}
 use Rattle.kb_lane.specs.Replies.{IsReply, is_accepted}
 
@@ -25,7 +26,8 @@ lifted-accepts reply after accepts (Again told) = accepts told
 lifted-accepts reply after accepts (Refused refusal) = tt
 
 -- so does each of the machine's
-pub judged_accepts : (machine : MachineValue) (today : ℕ) (command : Command) → Accepts (judged machine today command)
+pub judged_accepts : (machine : MachineValue) (today : ℕ) (command : Command)
+    → Accepts (judged machine today command)
 unfolding judged
 judged_accepts machine today (kinds.Catalog c) =
     lifted-accepts replies.Version (with_texts machine) (λ told. refl) (catalog_judged machine.texts c)
@@ -61,7 +63,8 @@ accepted_reply told replies.NoMemory accepts is = tt
 pub accepted_fault : (reply : LaneReply) → is_accepted reply ≡ true → reply ≡ replies.DiskFault → ⊥
 accepted_fault reply accepts is = true≢false (sym accepts ∙ ap is_accepted is)
 
-pub accepted_stopped : (reply : LaneReply) (count : ℕ) → is_accepted reply ≡ true → reply ≡ replies.Stopped count → ⊥
+pub accepted_stopped : (reply : LaneReply) (count : ℕ) → is_accepted reply ≡ true
+    → reply ≡ replies.Stopped count → ⊥
 accepted_stopped reply count accepts is = true≢false (sym accepts ∙ ap is_accepted is)
 
 pub accepted_full : (reply : LaneReply) (commands size : ℕ) → is_accepted reply ≡ true

@@ -1,5 +1,6 @@
 -- What is known of the settlement that was chosen, and what a step leaves of a lane whose gateway was asked.
-use Rattle.std.proofs.Common.{ℕ, ◌≡◌, List, [], ◌∷◌, length, Option, None, Some, IsSome, Result, Ok, Err, false, true≢false, refl, sym, ap, subst, ◌∙◌}
+use Rattle.std.proofs.Common.{ℕ, ◌≡◌, List, [], ◌∷◌, length, Option, None, Some, IsSome, Result, Ok, Err}
+use Rattle.std.proofs.Common.{false, true≢false, refl, sym, ap, subst, ◌∙◌}
 use Rattle.kb_base.specs.declared.fault.Failed.{Failed}
 use Rattle.std.proofs.lemmas.Option.{none-some}
 use Rattle.kb_gateway.specs.Answers.{asked_of}
@@ -29,7 +30,8 @@ use Rattle.kb_lane.specs.Lanes.{LaneValue}
 use Rattle.kb_attempts.specs.Attempts.{attempt_in}
 use Rattle.kb_lane.specs.Asking.{asked_for, attempt_asked}
 use Rattle.kb_lane.specs.Works.{work_of}
-use Rattle.kb_lane.specs.Draining.{order_for, order_in, order_of, settled_by, with_outbox, Writes, Accepts, Asks, Orders}
+use Rattle.kb_lane.specs.Draining.{order_for, order_in, order_of, settled_by, with_outbox, Writes, Accepts}
+use Rattle.kb_lane.specs.Draining.{Asks, Orders}
 use Rattle.kb_lane.specs.Private.Settlements.{IsChosen, IsReadyOf, IsBusy, fault_step}
 use Rattle.kb_lane.specs.Private.Runs.{SettlesNone}
 
@@ -54,10 +56,12 @@ unchosen_command machine today (Some command) chosen = absurd chosen
 pub settled_check : (today : ℕ) (account key : List ℕ) (answer : Result Told Failed) (command : Command)
     → settled_by account key answer ≡ Some command → work_of (today, command) ≡ Check account ∷ []
 settled_check today account key (Ok told.Processed) command is =
-    let same : kinds.Settle (record { account = account; payment = key; status = status.Success }) ≡ command = cc in
+    let same : kinds.Settle (record { account = account; payment = key; status = status.Success }) ≡ command =
+    cc in
     rw (← same) refl
 settled_check today account key (Ok told.Pending) command is =
-    let same : kinds.Settle (record { account = account; payment = key; status = status.Pending }) ≡ command = cc in
+    let same : kinds.Settle (record { account = account; payment = key; status = status.Pending }) ≡ command =
+    cc in
     rw (← same) refl
 settled_check today account key (Ok told.Error) command is =
     let same : kinds.Settle (record { account = account; payment = key; status = status.PaymentFailure })
@@ -71,7 +75,8 @@ settled_check today account key (Ok told.Undefined) command is = absurd (cc)
 settled_check today account key (Err failed) command is = absurd (cc)
 
 -- of the lane before, log and outbox alone count
-pub writes_from : {D G : Type 0} (fault_count : D → ℕ) (old other new : LaneValue D G) (entry : Entry) (step : Step)
+pub writes_from : {D G : Type 0} (fault_count : D → ℕ) (old other new : LaneValue D G)
+    (entry : Entry) (step : Step)
     → other.log ≡ old.log → other.outbox ≡ old.outbox → Writes fault_count old new entry step
     → Writes fault_count other new entry step
 writes_from fault_count old other new entry steps.Idle log outbox writes = elim writes [ ]
@@ -92,12 +97,18 @@ writes_from fault_count old other new entry steps.DiskFault log outbox writes = 
 }
 writes_from fault_count old other new entry (steps.Stopped count) log outbox writes =
     (rw log writes.0, rw log writes.1, (rw log writes.2.0, rw outbox writes.2.1))
-writes_from fault_count old other new entry (steps.Full commands size) log outbox writes =
-    (rw log writes.0, rw log writes.1, rw log writes.2, rw log writes.3, (rw log writes.4.0, rw outbox writes.4.1))
+writes_from fault_count old other new entry (steps.Full commands size) log outbox writes = (
+  rw log writes.0,
+  rw log writes.1,
+  rw log writes.2,
+  rw log writes.3,
+  (rw log writes.4.0, rw outbox writes.4.1),
+)
 writes_from fault_count old other new entry steps.NoMemory log outbox writes =
     (rw log writes.0, rw outbox writes.1)
 
-module _ {D G : Type 0} (fault_count : D → ℕ) (asked : G → Option (List Asked)) (said : G → Option (List Saying))
+module _ {D G : Type 0} (fault_count : D → ℕ) (asked : G → Option (List Asked))
+    (said : G → Option (List Saying))
     (faults : G → ℕ) (old new : LaneValue D G) (today : ℕ) (account key : List ℕ) (later : List Work) where
   -- a lane that runs doesn't tell that it has stopped
   not-stopped : (command : Option Command) (count : ℕ) → old.log.journal.stopped ≡ false
@@ -151,7 +162,8 @@ order_there machine account key there = by_book (book_of machine account) there
     by_book (Some book) there = by_attempt book (attempt_of book.payments key) there
 
 -- the settlement by an answer settles none of the payments that are left
-pub settled_frees : (account key : List ℕ) (answer : Result Told Failed) (command : Command) (later : List Work)
+pub settled_frees : (account key : List ℕ) (answer : Result Told Failed) (command : Command)
+    (later : List Work)
     → settled_by account key answer ≡ Some command
     → ((status : Status) → SettlesNone (kinds.Settle (record {
       account = account;

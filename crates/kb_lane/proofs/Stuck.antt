@@ -1,5 +1,6 @@
 -- A record of a command that isn't new.
-use Rattle.std.proofs.Common.{◌≡◌, ℕ, suc, ◌<◌, false, List, ◌∷◌, ◌++◌, length, map, take, drop, get_or, sym, ap, ◌∙◌, refl, Some}
+use Rattle.std.proofs.Common.{◌≡◌, ℕ, suc, ◌<◌, false, List, ◌∷◌, ◌++◌, length, map, take, drop, get_or, sym}
+use Rattle.std.proofs.Common.{ap, ◌∙◌, refl, Some}
 use Rattle.std.proofs.lemmas.List.{map-append}
 use Rattle.std.proofs.Math.Seq.{split_at}
 use Rattle.kb_codec.specs.declared.command.Command.{Command}
@@ -16,7 +17,8 @@ stuck : (machine : MachineValue) (today : ℕ) (command : Command) (bytes : List
 stuck machine today command bytes only not entry sound is =
     ap (λ (given : Entry). is_new (judged machine given.0 given.1)) (only entry sound is) ∙ not
 
-pub stuck_again : (machine : MachineValue) (today : ℕ) (command : Command) (bytes : List ℕ) (reply : LaneReply)
+pub stuck_again : (machine : MachineValue) (today : ℕ) (command : Command) (bytes : List ℕ)
+    (reply : LaneReply)
     → ((other : Entry) → IsEntry other → payload other ≡ bytes → other ≡ (today, command))
     → judged machine today command ≡ Again reply → IsStuck machine bytes
 stuck_again machine today command bytes reply only again =
@@ -28,14 +30,16 @@ refused-new (New reply after) refusal is = absurd (cc)
 refused-new (Again reply) refusal is = refl
 refused-new (Refused told) refusal is = refl
 
-pub stuck_refused : (machine : MachineValue) (today : ℕ) (command : Command) (bytes : List ℕ) (refusal : Refusal)
+pub stuck_refused : (machine : MachineValue) (today : ℕ) (command : Command) (bytes : List ℕ)
+    (refusal : Refusal)
     → ((other : Entry) → IsEntry other → payload other ≡ bytes → other ≡ (today, command))
     → refusal_in (judged machine today command) ≡ Some refusal → IsStuck machine bytes
 stuck_refused machine today command bytes refusal only refused =
     stuck machine today command bytes only (refused-new (judged machine today command) refusal refused)
 
 -- a list that is read item by item, around the item at a place
-pub parts_around : {A B : Type 0} (read : A → B) (items : List A) (place : ℕ) (item : A) → place < length items
+pub parts_around : {A B : Type 0} (read : A → B) (items : List A) (place : ℕ) (item : A)
+    → place < length items
     → item ≡ get_or items place item
     → map read items ≡ map read (take place items) ++ (read item ∷ map read (drop (suc place) items))
 parts_around read items place item inside is =

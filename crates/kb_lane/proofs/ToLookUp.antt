@@ -1,9 +1,12 @@
--- The payments that are to be looked up are open, none of them is there twice, and the outbox has none of them.
-use Rattle.std.proofs.Common.{◌≡◌, ℕ, arith, Bool, true, false, true≢false, not, ◌||◌, bytes_eq, List, [], ◌∷◌}
+-- The payments that are to be looked up are open, none of them is there twice, and the outbox has none of
+-- them.
+use Rattle.std.proofs.Common.{◌≡◌, ℕ, arith, Bool, true, false, true≢false, not, ◌||◌, bytes_eq, List, []}
+use Rattle.std.proofs.Common.{◌∷◌}
 use Rattle.std.proofs.Common.{map, flat_map, All, AllPairs, Option, Some, None, refl, sym, ap, ◌∙◌}
 use Rattle.std.specs.List.{list_any}
 use Rattle.std.proofs.lemmas.Bool.{and_from}
-use Rattle.std.proofs.lemmas.List.Elements.{All-nil, All-cons, All-head, All-tail, All-append, All-map, All-filter, filter_passes}
+use Rattle.std.proofs.lemmas.List.Elements.{All-nil, All-cons, All-head, All-tail, All-append, All-map}
+use Rattle.std.proofs.lemmas.List.Elements.{All-filter, filter_passes}
 use Rattle.std.proofs.lemmas.List.Kept.{AllPairs-filter, AllPairs-cons}
 use Rattle.std.proofs.lemmas.Slice.Eq.{bytes_eq-Decides}
 use Rattle.kb_payment.specs.PaymentSums.{open_keys, IsOpenKey}
@@ -41,7 +44,8 @@ module _ (machine : MachineValue) where
       (opened-all later (All-tail (AreOpenIn machine) name later each))
 
   -- those of other accounts are of other accounts
-  other-accounts : (account : List ℕ) (names : List (List ℕ)) → All (λ (name : List ℕ). account ≡ name → ⊥) names
+  other-accounts : (account : List ℕ) (names : List (List ℕ))
+      → All (λ (name : List ℕ). account ≡ name → ⊥) names
       → All (λ (one : Asked). account ≡ one.account → ⊥) (flat_map found names)
   other-accounts account [] others = All-nil (λ (one : Asked). account ≡ one.account → ⊥)
   other-accounts account (name ∷ later) others =
@@ -92,12 +96,14 @@ module _ {D G : Type 0} (lane : LaneValue D G) where
 
   pub are_to_look_up : AllPairs (λ (one other : List ℕ). one ≡ other → ⊥)
       (map (λ (entry : List ℕ × BookValue). entry.0) (machine_of lane).books)
-      → All (AreOpenIn (machine_of lane)) (map (λ (entry : List ℕ × BookValue). entry.0) (machine_of lane).books)
+      → All (AreOpenIn (machine_of lane)) (map (λ (entry : List ℕ × BookValue). entry.0)
+      (machine_of lane).books)
       → AreToLookUp lane (to_look_up lane)
   are_to_look_up apart each = record {
     opened = All-filter test (λ (one : Asked). IsOpen (attempt_asked (machine_of lane) one))
         (open_payments (machine_of lane)) (opened-all (machine_of lane) _ each);
-    apart = AllPairs-filter Other test (open_payments (machine_of lane)) (apart-all (machine_of lane) _ apart each);
+    apart = AllPairs-filter Other test (open_payments (machine_of lane))
+        (apart-all (machine_of lane) _ apart each);
     beside = λ k d inside. beside-one _ lane.outbox
         (not-false _ (filter_passes test (open_payments (machine_of lane)) k d inside));
   }

@@ -24,7 +24,8 @@ module _ {D : Type 0} (honest : D → Bool) (moment : D → ℕ) (left_since : D
     -- a command is written down
     pub past_one : new.history ≡ old.history ++ entry ∷ [] → StandsPast honest moment left_since old new
     past_one grown running is =
-        inr (weaker moment left_since old.journal.disk new.journal.disk _ (IsPast (length old.history) new) past
+        inr (weaker moment left_since old.journal.disk new.journal.disk _
+        (IsPast (length old.history) new) past
         (stands running is))
       where
         past : (image : List ℕ)
@@ -43,7 +44,8 @@ module _ {D : Type 0} (honest : D → Bool) (moment : D → ℕ) (left_since : D
     pub within_mark : new.history ≡ old.history → new.failed ≡ entry ∷ []
         → StandsWithin honest moment left_since old new
     within_mark same marked running is =
-        inr (weaker moment left_since old.journal.disk new.journal.disk _ (IsPart (length old.history) new) part
+        inr (weaker moment left_since old.journal.disk new.journal.disk _
+        (IsPart (length old.history) new) part
         (stands running is))
       where
         part : (image : List ℕ)
@@ -80,7 +82,8 @@ module _ {D : Type 0} (honest : D → Bool) (moment : D → ℕ) (left_since : D
     more-length : length old.history ≤ length middle.history
     more-length = omega (arith, ap length longer.1, length-append old.history longer.0)
 
-    earlier : (image : List ℕ) → IsPast (length old.history) middle image → IsPast (length old.history) new image
+    earlier : (image : List ℕ) → IsPast (length old.history) middle image
+        → IsPast (length old.history) new image
     earlier image (some, rest, parts, least, stands) = (
       some,
       rest ++ further.0,
@@ -89,7 +92,8 @@ module _ {D : Type 0} (honest : D → Bool) (moment : D → ℕ) (left_since : D
       rw (lanes, lane) stands,
     )
 
-    later : (image : List ℕ) → IsPast (length middle.history) new image → IsPast (length old.history) new image
+    later : (image : List ℕ) → IsPast (length middle.history) new image
+        → IsPast (length old.history) new image
     later image (some, rest, parts, least, stands) =
         (some, rest, parts, omega (arith, more-length, least), stands)
 
@@ -97,7 +101,8 @@ module _ {D : Type 0} (honest : D → Bool) (moment : D → ℕ) (left_since : D
         → ((image : List ℕ) → IsPast (length old.history) middle image → P image)
         → ((image : List ℕ) → Q image → P image)
         → (middle.journal.disk ≡ old.journal.disk)
-        ⊎ AtEachMoment moment left_since old.journal.disk middle.journal.disk (IsPast (length old.history) middle)
+        ⊎ AtEachMoment moment left_since old.journal.disk middle.journal.disk
+        (IsPast (length old.history) middle)
         → (new.journal.disk ≡ middle.journal.disk)
         ⊎ AtEachMoment moment left_since middle.journal.disk new.journal.disk Q
         → (new.journal.disk ≡ old.journal.disk)
@@ -114,7 +119,8 @@ module _ {D : Type 0} (honest : D → Bool) (moment : D → ℕ) (left_since : D
         (weaker moment left_since old.journal.disk middle.journal.disk _ P before one)
         (weaker moment left_since middle.journal.disk new.journal.disk Q P after two))
 
-    pub past_then : StandsPast honest moment left_since middle new → StandsPast honest moment left_since old new
+    pub past_then : StandsPast honest moment left_since middle new
+        → StandsPast honest moment left_since old new
     past_then second goes is =
         joined (IsPast (length old.history) new) (IsPast (length middle.history) new) earlier later
         (first goes is) (second running (subst IsTrue (sym as_honest) is))
@@ -126,13 +132,15 @@ module _ {D : Type 0} (honest : D → Bool) (moment : D → ℕ) (left_since : D
         (λ image past. inl (earlier image past)) part
         (first goes is) (second running (subst IsTrue (sym as_honest) is))
       where
-        part : (image : List ℕ) → IsPart (length middle.history) new image → IsPart (length old.history) new image
+        part : (image : List ℕ) → IsPart (length middle.history) new image
+            → IsPart (length old.history) new image
         part image (inl past) = inl (later image past)
         part image (inr failed) = inr failed
 
   -- what a step leaves that writes
   module _ {G : Type 0} (fault_count : D → ℕ) (old new : LaneValue D G) (entry : Entry)
-      (lanes : new.log.journal.lanes ≡ old.log.journal.lanes) (lane : new.log.journal.lane ≡ old.log.journal.lane)
+      (lanes : new.log.journal.lanes ≡ old.log.journal.lanes)
+      (lane : new.log.journal.lane ≡ old.log.journal.lane)
       (moments : (other : Entry) → IsWritten old.log new.log other
       → StandsThroughout honest moment left_since old.log new.log other) where
     pub writes_past : (step : Step) → Writes fault_count old new entry step → step ≡ steps.Done
@@ -152,7 +160,8 @@ module _ {D : Type 0} (honest : D → Bool) (moment : D → ℕ) (left_since : D
     writes_within steps.DiskFault writes =
         within_mark old.log new.log entry lanes lane
         (moments entry (inr (writes.may.0, writes.stopped, writes.marked))) writes.history writes.marked
-    writes_within (steps.Stopped count) writes = within_past old.log new.log (past_none old.log new.log writes.2.0)
+    writes_within (steps.Stopped count) writes = within_past old.log new.log
+        (past_none old.log new.log writes.2.0)
     writes_within (steps.Full commands size) writes =
         within_past old.log new.log (past_none old.log new.log writes.4.0)
     writes_within steps.NoMemory writes = within_past old.log new.log (past_none old.log new.log writes.0)

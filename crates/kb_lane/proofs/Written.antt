@@ -1,5 +1,6 @@
 -- The command that a step writes down is the one that it was to write down.
-use Rattle.std.proofs.Common.{ℕ, ◌≡◌, inl, inr, arith, length-append, Bool, false, true≢false, IsTrue, Result, Ok, Err, List, [], ◌∷◌, ◌++◌, length, sym, ap, subst, ◌∙◌}
+use Rattle.std.proofs.Common.{ℕ, ◌≡◌, inl, inr, arith, length-append, Bool, false, true≢false, IsTrue, Result}
+use Rattle.std.proofs.Common.{Ok, Err, List, [], ◌∷◌, ◌++◌, length, sym, ap, subst, ◌∙◌}
 use Rattle.kb_reply.specs.declared.step.Step.{Step}
 use Rattle.kb_reply.specs.declared.step.Step.TheVariants as steps
 use Rattle.kb_disk.specs.Moments.{AtEachMoment}
@@ -12,7 +13,8 @@ use Rattle.kb_lane.specs.Lanes.{LaneValue, StandsThroughout}
 use Rattle.kb_lane.specs.Draining.{Writes, IsWritten}
 
 -- a list has no other last element
-last-same : (history : History) (one other : Entry) → history ++ one ∷ [] ≡ history ++ other ∷ [] → one ≡ other
+last-same : (history : History) (one other : Entry) → history ++ one ∷ [] ≡ history ++ other ∷ []
+    → one ≡ other
 last-same [] one other same = cc
 last-same (first ∷ later) one other same = last-same later one other cc
 
@@ -53,7 +55,8 @@ module _ {D G : Type 0} (fault_count : D → ℕ) (old new : LaneValue D G) (ent
   written-entry steps.NoMemory writes written = absurd (left-none old.log new.log other writes.0 written)
 
   -- so what holds at each moment with it holds with whatever was written
-  pub written_moments : (honest : D → Bool) (moment : D → ℕ) (left_since : D → ℕ → List ℕ → Type 0) (step : Step)
+  pub written_moments : (honest : D → Bool) (moment : D → ℕ)
+      (left_since : D → ℕ → List ℕ → Type 0) (step : Step)
       → Writes fault_count old new entry step → IsWritten old.log new.log other
       → ((step ≡ steps.NoMemory → ⊥) → StandsThroughout honest moment left_since old.log new.log entry)
       → StandsThroughout honest moment left_since old.log new.log other
@@ -65,7 +68,8 @@ module _ {D : Type 0} (fault_count : D → ℕ) (old new : LogValue D) (entry ot
   -- the command that a log appended is the one that was written
   appended-entry : (size : ℕ) (result : Result (Unit {0}) AppendFault)
       → Appends fault_count old new entry size result → IsWritten old new other → entry ≡ other
-  appended-entry size (Ok done) appends (inl grown) = last-same old.history entry other (sym appends.2 ∙ grown)
+  appended-entry size (Ok done) appends (inl grown) = last-same old.history entry other
+      (sym appends.2 ∙ grown)
   appended-entry size (Ok done) appends (inr marked) = absurd (true≢false (sym marked.1 ∙ appends.1))
   appended-entry size (Err (fault.Stopped count)) appends written =
       absurd (left-none old new other appends.2 written)

@@ -55,8 +55,8 @@ pub record AsksOnce (first later : MachineValue) (own left : List Asked) : Type 
 abbrev pub EndsWith : Option (List Asked) → List Asked → Type 0
 EndsWith asked own = (all : List Asked) → asked ≡ Some all → (before : List Asked) × (all ≡ before ++ own)
 
--- A gateway that tells what it was asked was asked for no payment twice, if what it had been asked before these
--- was asked once each, for attempts of the first machine.
+-- A gateway that tells what it was asked was asked for no payment twice, if what it had been asked before
+-- these was asked once each, for attempts of the first machine.
 abbrev pub WasAskedOnce : MachineValue → Option (List Asked) → List Asked → Type 0
 WasAskedOnce first asked own = (all before : List Asked) → asked ≡ Some all → all ≡ before ++ own
     → AreApart before → HaveAttempts first before → AreApart all

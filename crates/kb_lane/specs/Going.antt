@@ -17,8 +17,9 @@ StandsPast honest moment left_since old new = old.journal.stopped ≡ false
     → (new.journal.disk ≡ old.journal.disk)
     ⊎ AtEachMoment moment left_since old.journal.disk new.journal.disk (IsPast (length old.history) new)
 
--- What each step does to a log, and so each run of steps: the history goes on; each image stands for what it may,
--- and for no more than the later history if no append failed; and a log that has stopped stays as it is.
+-- What each step does to a log, and so each run of steps: the history goes on; each image stands for what
+-- it may, and for no more than the later history if no append failed; and a log that has stopped stays as
+-- it is.
 pub record GoesWell {D : Type 0} (honest : D → Bool) (moment : D → ℕ) (left_since : D → ℕ → List ℕ → Type 0)
     (old new : LogValue D) : Type 0 where
   pub further : GoesOn old.history new.history

@@ -1,5 +1,6 @@
 -- A lane: its log, what it is yet to do, and what it asked of its gateway.
-use Rattle.std.specs.Prelude.{ℕ, ◌≡◌, ◌≤◌, ◌⊎◌, [], ◌∷◌, ◌++◌, Bool, false, IsTrue, List, Option, length, take}
+use Rattle.std.specs.Prelude.{ℕ, ◌≡◌, ◌≤◌, ◌⊎◌, [], ◌∷◌, ◌++◌, Bool, false, IsTrue, List, Option, length}
+use Rattle.std.specs.Prelude.{take}
 use Rattle.kb_disk.specs.Moments.{AtEachMoment}
 use Rattle.kb_journal.specs.Format.{IsWithOrWithout, StandsFor}
 use Rattle.kb_gateway.specs.declared.order.Asked.{Asked}
@@ -26,8 +27,9 @@ machine_of lane = replay lane.log.history
 abbrev pub opened_of : {D G : Type 0} → LaneValue D G → MachineValue
 opened_of lane = replay (take lane.log.opened lane.log.history)
 
--- What always holds of a lane. Its machine is what the history leads to, in which each command was new. What it
--- asked and is yet to ask since it was opened, it asks once; and its gateway was asked this last, where it tells.
+-- What always holds of a lane. Its machine is what the history leads to, in which each command was new.
+-- What it asked and is yet to ask since it was opened, it asks once; and its gateway was asked this last,
+-- where it tells.
 pub record IsLane {D G : Type 0} (asked : G → Option (List Asked)) (machine : MachineValue)
     (lane : LaneValue D G) : Type 0 where
   pub replayed : machine ≡ machine_of lane
@@ -67,9 +69,9 @@ IsPart least log image = IsPast least log image
     ⊎ ((entry : Entry) × (log.failed ≡ entry ∷ [])
     × StandsFor log.journal.lanes log.journal.lane (payloads log.history ++ payload entry ∷ []) image)
 
--- At each moment from one state of a log to a later one, if no append had failed before, an honest disk is as it
--- was, or each image stands for the earlier history, for that and the first of the commands that came since, or
--- for all of them and the one whose append failed.
+-- At each moment from one state of a log to a later one, if no append had failed before, an honest disk is
+-- as it was, or each image stands for the earlier history, for that and the first of the commands that came
+-- since, or for all of them and the one whose append failed.
 abbrev pub StandsWithin : {D : Type 0} → (D → Bool) → (D → ℕ) → (D → ℕ → List ℕ → Type 0) → LogValue D
     → LogValue D → Type 0
 StandsWithin honest moment left_since old new = old.journal.stopped ≡ false

@@ -1,6 +1,8 @@
 -- How a lane looks up what became of its open payments.
-use Rattle.std.specs.Prelude.{ℕ, ◌≡◌, not, ◌&&◌, Bool, true, false, bytes_eq, List, [], ◌∷◌, map, filter, length}
-use Rattle.std.specs.Prelude.{Option, None, Some, Result, Ok, Err, if◌then◌else◌, option_map, codes, refl, flat_map, ◌⊎◌}
+use Rattle.std.specs.Prelude.{ℕ, ◌≡◌, not, ◌&&◌, Bool, true, false, bytes_eq, List, [], ◌∷◌, map, filter}
+use Rattle.std.specs.Prelude.{length}
+use Rattle.std.specs.Prelude.{Option, None, Some, Result, Ok, Err, if◌then◌else◌, option_map, codes, refl}
+use Rattle.std.specs.Prelude.{flat_map, ◌⊎◌}
 use Rattle.std.specs.List.{list_any}
 use Rattle.kb_base.specs.declared.fault.Failed.{Failed}
 use Rattle.kb_base.specs.Faults.{HasCause}
@@ -55,14 +57,17 @@ seen_status seen.NotSeen = status.PluginFailure
 -- the status that a look-up tells, if that isn't the present one; none if it failed
 abbrev pub news : Status → Result Seen Failed → Option Status
 news present (Err failed) = None
-news present (Ok answer) = if same_status present (seen_status answer) then None else Some (seen_status answer)
+news present (Ok answer) = if same_status present (seen_status answer) then None else Some
+    (seen_status answer)
 
 -- the settlement of an attempt of this status by a look-up
 abbrev pub resettled : List ℕ → List ℕ → Status → Result Seen Failed → Option Command
 resettled account key present answer =
-    option_map (λ told. kinds.Settle (record { account = account; payment = key; status = told })) (news present answer)
+    option_map (λ told. kinds.Settle (record { account = account; payment = key; status = told }))
+    (news present answer)
 
-one_that_never_came : resettled (codes "a1") (codes "p1") status.Unknown (Ok seen.NotSeen) ≡ Some (kinds.Settle
+one_that_never_came : resettled (codes "a1") (codes "p1") status.Unknown (Ok seen.NotSeen)
+    ≡ Some (kinds.Settle
     (record { account = codes "a1"; payment = codes "p1"; status = status.PluginFailure }))
 one_that_never_came = refl
 
@@ -109,8 +114,8 @@ EachDone Handles old new [] step = (step ≡ steps.Done) × (new ≡ old)
 EachDone Handles old new (one ∷ later) step = ((step ≡ steps.Done → ⊥) × Handles old new one step)
     ⊎ ((between : _) × Handles old between one steps.Done × EachDone Handles between new later step)
 
--- What a lane leaves that looks its open payments up: each, up to the first step that isn't done, or none if there
--- is no memory for the list of them; and it asks for nothing.
+-- What a lane leaves that looks its open payments up: each, up to the first step that isn't done, or none
+-- if there is no memory for the list of them; and it asks for nothing.
 pub record LooksAllUp {D G : Type 0} (fault_count : D → ℕ) (asked : G → Option (List Asked))
     (said : G → Option (List Saying)) (faults : G → ℕ) (today : ℕ) (old new : LaneValue D G) (step : Step)
     : Type 0 where

@@ -58,9 +58,10 @@ pub record IsMarked {D G : Type 0} (fault_count : D → ℕ) (old new : LaneValu
   pub stopped : new.log.journal.stopped ≡ true
   pub cause : Rose (fault_count old.log.journal.disk) (fault_count new.log.journal.disk)
 
--- What the performing of a command that comes on a day leaves, by its reply: it is taken, or marked, or the lane is as it was;
--- `Stopped` and `Full` come by their causes; and no gateway is asked.
-pub record Performs {D G : Type 0} (fault_count : D → ℕ) (old new : LaneValue D G) (today : ℕ) (command : Command)
+-- What the performing of a command that comes on a day leaves, by its reply: it is taken, or marked, or the
+-- lane is as it was; `Stopped` and `Full` come by their causes; and no gateway is asked.
+pub record Performs {D G : Type 0} (fault_count : D → ℕ) (old new : LaneValue D G) (today : ℕ)
+    (command : Command)
     (reply : LaneReply) : Type 0 where
   pub told : IsReply (judged (machine_of old) today command) reply
   pub taken : is_taken (judged (machine_of old) today command) reply ≡ true → Takes old new (today, command)

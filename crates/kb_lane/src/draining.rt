@@ -60,8 +60,8 @@ impl<D: Disk, G: Gateway + Drop> Lane<D, G> {
         self.handle(alloc, today, work)
     }
 
-    /// A history has fewer commands than a number counts, and a day is one that a command may name: what the work
-    /// left is measured by.
+    /// A history has fewer commands than a number counts, and a day is one that a command may name: what
+    /// the work left is measured by.
     fn is_within(&self, today: Day)
         ensures few { length self.now.log.history < 2 ^ 64 }
         ensures last { today ≤ last_day }
@@ -176,8 +176,8 @@ impl<D: Disk, G: Gateway + Drop> Lane<D, G> {
         }
     }
 
-    /// Asks the gateway for an order, and takes it off the outbox; then settles it by the answer, for which it
-    /// takes no memory.
+    /// Asks the gateway for an order, and takes it off the outbox; then settles it by the answer, for which
+    /// it takes no memory.
     #[tactic(auto, using(crate::proofs::Choices::all_four))]
     fn ask(
         &mut self,

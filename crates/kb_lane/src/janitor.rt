@@ -1,5 +1,6 @@
 //! Payments whose outcome isn't known, looked up.
-ghost use Rattle.std.specs.Prelude.{◌≡◌, ◌⊎◌, ◌++◌, true, false, List, ℕ, None, Some, IfOk, OnOk, if◌then◌else◌};
+ghost use Rattle.std.specs.Prelude.{◌≡◌, ◌⊎◌, ◌++◌, true, false, List, ℕ, None, Some, IfOk, OnOk};
+ghost use Rattle.std.specs.Prelude.{if◌then◌else◌};
 ghost use Rattle.std.specs.List.{list_any};
 ghost use Rattle.kb_codec.specs.declared.command.Command.TheVariants as kinds;
 ghost use Rattle.kb_payment.specs.declared.attempt.Attempt.{Attempt as AnyAttempt};
@@ -27,10 +28,10 @@ use kb_payment::Status;
 use std::alloc::Global;
 
 impl<D: Disk, G: Gateway + Drop> Lane<D, G> {
-    /// Looks up what became of each payment whose attempt is open and whose order isn't in the outbox any more,
-    /// by accounts and then by keys, and settles those of which the gateway tells another status. It asks for
-    /// nothing. `Done` comes at the end, and `Idle` never; any other step ends it, and what was settled before
-    /// stays so. A lane that has stopped looks nothing up.
+    /// Looks up what became of each payment whose attempt is open and whose order isn't in the outbox any
+    /// more, by accounts and then by keys, and settles those of which the gateway tells another status. It
+    /// asks for nothing. `Done` comes at the end, and `Idle` never; any other step ends it, and what was
+    /// settled before stays so. A lane that has stopped looks nothing up.
     pub fn janitor(&mut self, alloc: Global, today: Day) -> Step
         ensures busy { result ≡ steps.Idle → ⊥ }
         ensures looked { EachDone (Looked D.fault_count G.asked G.said G.faults today) self.old self.new

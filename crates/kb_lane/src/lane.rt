@@ -97,10 +97,11 @@ impl<D: Disk, G: Gateway + Drop> Lane<D, G> {
         }
     }
 
-    /// The disk and the gateway, as they are. The bytes of an honest disk stand for the history; or, if an append has
-    /// failed, for that or for it and the command whose append failed, and the disk's count of failed calls has risen
-    /// since the lane was opened. If the gateway tells what it was asked, it was asked for no payment twice, provided
-    /// that before the lane was opened it was asked once each, for attempts that the lane had then.
+    /// The disk and the gateway, as they are. The bytes of an honest disk stand for the history; or, if an
+    /// append has failed, for that or for it and the command whose append failed, and the disk's count of
+    /// failed calls has risen since the lane was opened. If the gateway tells what it was asked, it was
+    /// asked for no payment twice, provided that before the lane was opened it was asked once each, for
+    /// attempts that the lane had then.
     pub fn into_parts(self) -> (D, G)
         ensures disk { result.0 ≡ self.log.journal.disk }
         ensures gateway { result.1 ≡ self.gateway }

@@ -18,17 +18,20 @@ use std::alloc::Global;
 impl<D: Disk, G: Gateway + Drop> Lane<D, G> {
     /// The names of the accounts, in their order. None is there twice.
     pub fn names(&self, alloc: Global) -> Result<Vec<Name>, NoMemory>
-        ensures names { IfOk result (λ names. names.items ≡ map (λ entry. entry.0) (machine_of self.now).books) }
-        ensures apart { IfOk result (λ names. AllPairs (λ (one other : List ℕ). one ≡ other → ⊥) names.items) }
+        ensures names { IfOk result (λ names. names.items
+            ≡ map (λ entry. entry.0) (machine_of self.now).books) }
+        ensures apart { IfOk result (λ names. AllPairs (λ (one other : List ℕ). one ≡ other → ⊥)
+            names.items) }
     {
         self.machine.books().names(alloc)
     }
 
-    /// The answer to a query on a day, which is that of the account's book. Refused if there is no such account
-    /// (`NoAccount`), or as the book refuses it.
+    /// The answer to a query on a day, which is that of the account's book. Refused if there is no such
+    /// account (`NoAccount`), or as the book refuses it.
     pub fn read(&self, alloc: Global, today: Day, query: &Query) -> Result<View, Unprepared>
         ensures shown { IfOk result (λ view. view_of (machine_of self.now) today query.now ≡ Ok view) }
-        ensures refused { IfErr result (IsUnprepared (refusal_by (view_of (machine_of self.now) today query.now))) }
+        ensures refused { IfErr result (IsUnprepared (refusal_by
+            (view_of (machine_of self.now) today query.now))) }
     {
         match self.machine.books().get(&account_asked(query)) {
             Some(book) => book.view(alloc, self.machine.world(), today, query),

@@ -32,14 +32,20 @@ paid-bounded book sound =
 -- and so does by how much one exceeds the other
 apart-bounded : (one two : ℤ) → nat_abs one ≤ 2 ^ 96 → nat_abs two ≤ 2 ^ 96
     → IsBounded (int_max (pos 0) (one -ℤ two))
-apart-bounded one two first second = (omega (arith, ints, clamps, first, second), omega (arith, ints, clamps, first, second))
+apart-bounded one two first second = (
+  omega (arith, ints, clamps, first, second),
+  omega
+      (arith, ints, clamps, first, second),
+)
 
 pub credit-bounded : (book : BookValue) → IsBook book → IsBounded (credit book.invoices.rows)
 credit-bounded book sound =
     subst IsBounded (sym sound.credited)
-    (apart-bounded (paid book.invoices.rows) (charged book.invoices.rows) (paid-size book sound) (charged-size book sound))
+    (apart-bounded (paid book.invoices.rows) (charged book.invoices.rows) (paid-size book sound)
+    (charged-size book sound))
 
 pub unpaid-bounded : (book : BookValue) → IsBook book → IsBounded (unpaid book.invoices.rows)
 unpaid-bounded book sound =
     subst IsBounded (sym sound.owed)
-    (apart-bounded (charged book.invoices.rows) (paid book.invoices.rows) (charged-size book sound) (paid-size book sound))
+    (apart-bounded (charged book.invoices.rows) (paid book.invoices.rows) (charged-size book sound)
+    (paid-size book sound))

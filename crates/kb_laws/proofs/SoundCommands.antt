@@ -80,7 +80,8 @@ module _ (world : WorldValue) (book : BookValue) (today : ℕ) (command : Comman
     after-totals : totals_size after.invoices ≤ 2 ^ 55 * after.commands
     after-totals =
         let edit = begun-edited world book today command in
-        let more = totals-billed_rows edited.payments edited.invoices today (issue.lines ++ own_lines command) in
+        let more = totals-billed_rows edited.payments edited.invoices today
+        (issue.lines ++ own_lines command) in
         let same = ap totals_size edit.invoices in
         omega (arith, more, same, small, sound.totals, edit.commands)
 
@@ -91,7 +92,8 @@ module _ (world : WorldValue) (book : BookValue) (today : ℕ) (command : Comman
         subst (λ (invoices : InvoicesValue). with_paid book.payments invoices ≡ invoices) (sym edit.invoices)
         sound.noted in
         let invoiced : AreInvoiced (length edited.invoices.rows) edited.payments =
-        subst (λ (invoices : InvoicesValue). AreInvoiced (length invoices.rows) edited.payments) (sym edit.invoices)
+        subst (λ (invoices : InvoicesValue). AreInvoiced (length invoices.rows) edited.payments)
+        (sym edit.invoices)
         edited-sound.1 in
         let more = paid-billed_rows book.payments edited.payments edited.invoices today
         (issue.lines ++ own_lines command) noted moves invoiced in
@@ -127,4 +129,5 @@ module _ (world : WorldValue) (book : BookValue) (today : ℕ) (command : Comman
     -- also with its answer kept
     pub sound-accepted : IsBook (accepted_over world book today command first_day charged_days).1
     sound-accepted =
-        sound-keep command (key_of command) (billed_outcome edited today issue (own_lines command)) after-sound
+        sound-keep command (key_of command) (billed_outcome edited today issue (own_lines command))
+        after-sound

@@ -82,7 +82,8 @@ module _ (world : WorldValue) (book edited : BookValue) (own : List Line) (today
       All-AreWhole after.invoices.rows (AreWhole-levelled_rows made.rows)
 
   -- no credit was owed
-  least : pos 0 ≤ℤ credit (with_paid edited.payments (with_invoice edited.invoices today (issue.lines ++ own))).rows
+  least : pos 0 ≤ℤ credit (with_paid edited.payments (with_invoice edited.invoices today
+      (issue.lines ++ own))).rows
   least =
       let same = credit-noted edited.payments edited.invoices today (issue.lines ++ own) in
       let before = ap (λ (invoices : InvoicesValue). credit invoices.rows) edit.invoices in
@@ -94,7 +95,8 @@ module _ (world : WorldValue) (book edited : BookValue) (own : List Line) (today
   after-credited =
       let rows = (with_paid edited.payments (with_invoice edited.invoices today (issue.lines ++ own))).rows in
       credit-levelled_rows rows least
-      ∙ ap₂ (λ a b. int_max (pos 0) (a -ℤ b)) (sym (paid-levelled_rows rows)) (sym (charged-levelled_rows rows))
+      ∙ ap₂ (λ a b. int_max (pos 0) (a -ℤ b)) (sym (paid-levelled_rows rows))
+      (sym (charged-levelled_rows rows))
 
   -- and what is unpaid the reverse
   pub after-owed : unpaid after.invoices.rows
@@ -102,4 +104,5 @@ module _ (world : WorldValue) (book edited : BookValue) (own : List Line) (today
   after-owed =
       let rows = (with_paid edited.payments (with_invoice edited.invoices today (issue.lines ++ own))).rows in
       unpaid-levelled rows least
-      ∙ ap₂ (λ a b. int_max (pos 0) (a -ℤ b)) (sym (charged-levelled_rows rows)) (sym (paid-levelled_rows rows))
+      ∙ ap₂ (λ a b. int_max (pos 0) (a -ℤ b)) (sym (charged-levelled_rows rows))
+      (sym (paid-levelled_rows rows))

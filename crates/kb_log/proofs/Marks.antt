@@ -1,5 +1,6 @@
 -- A log whose append failed: its command is marked, and each image stands for the history with it or without.
-use Rattle.std.proofs.Common.{◌≡◌, ℕ, ◌≤◌, ◌<◌, Bool, true, false, true≢false, IsTrue, List, [], ◌∷◌, ◌++◌, length}
+use Rattle.std.proofs.Common.{◌≡◌, ℕ, ◌≤◌, ◌<◌, Bool, true, false, true≢false, IsTrue, List, [], ◌∷◌, ◌++◌}
+use Rattle.std.proofs.Common.{length}
 use Rattle.std.proofs.Common.{refl, sym, ap, subst, ◌∙◌, arith}
 use Rattle.kb_base.specs.Faults.{Rose}
 use Rattle.kb_disk.specs.Moments.{AtEachMoment}
@@ -11,7 +12,8 @@ use Rattle.kb_log.specs.Logs.{LogValue, IsLog}
 
 module _ {D : Type 0} (honest : D → Bool) (seen : D → List ℕ) (images : D → List ℕ → Type 0)
     (fault_count moment : D → ℕ) (left_since : D → ℕ → List ℕ → Type 0) where
-  pub marked_log : (counts_now : (disk : D) (time : ℕ) (image : List ℕ) → time ≤ moment disk → images disk image
+  pub marked_log : (counts_now : (disk : D) (time : ℕ) (image : List ℕ) → time ≤ moment disk
+      → images disk image
       → left_since disk time image)
       (log : LogValue D) (after : JournalValue D) (entry : Entry) (bytes : List ℕ)
       → IsLog honest seen images fault_count log → bytes ≡ payload entry
@@ -25,7 +27,8 @@ module _ {D : Type 0} (honest : D → Bool) (seen : D → List ℕ) (images : D 
       (IsWithOrWithout log.journal.lanes log.journal.lane records bytes))
       → IsLog honest seen images fault_count
       (record log { journal = after; failed = log.failed ++ entry ∷ [] })
-  marked_log counts_now log after entry bytes is same running stopped count lanes lane honesty rose up moments =
+  marked_log counts_now log after entry bytes is same running stopped count lanes lane honesty
+      rose up moments =
       record {
         counted = count ∙ is.counted;
         early = is.early;
@@ -36,7 +39,8 @@ module _ {D : Type 0} (honest : D → Bool) (seen : D → List ℕ) (images : D 
           entry,
           ap (λ failed. failed ++ entry ∷ []) (is.unmarked running),
           λ sure image left. torn image (now_has moment left_since images log.journal.disk after.disk
-              (IsWithOrWithout log.journal.lanes log.journal.lane (payloads log.history) bytes) counts_now' (moments
+              (IsWithOrWithout log.journal.lanes log.journal.lane (payloads log.history) bytes)
+              counts_now' (moments
               (payloads log.history) (is.held running (subst IsTrue honesty sure))) image left),
         );
         caused = λ now small. omega (arith, is.rising, rose small);

@@ -26,7 +26,8 @@ pub fault_isnt_stopped : {A : Type 0} (result : Result A AppendFault) (count : �
     → IsErrOf result (Stopped count) → ⊥
 fault_isnt_stopped result count is told = cc
 
-pub fault_isnt_full : {A : Type 0} (result : Result A AppendFault) (commands bytes : ℕ) → result ≡ Err DiskFault
+pub fault_isnt_full : {A : Type 0} (result : Result A AppendFault) (commands bytes : ℕ)
+    → result ≡ Err DiskFault
     → IsErrOf result (Full commands bytes) → ⊥
 fault_isnt_full result commands bytes is told = cc
 

@@ -1,5 +1,6 @@
 -- A payload: its first four bytes tell the day, and the others the command.
-use Rattle.std.proofs.Common.{◌≡◌, ℕ, ◌<◌, ◌≤◌, ◌^◌, List, [], ◌∷◌, ◌++◌, length, take, drop, Option, Some, None, IfSome}
+use Rattle.std.proofs.Common.{◌≡◌, ℕ, ◌<◌, ◌≤◌, ◌^◌, List, [], ◌∷◌, ◌++◌, length, take, drop, Option, Some}
+use Rattle.std.proofs.Common.{None, IfSome}
 use Rattle.std.proofs.Common.{refl, sym, ap, ◌∙◌, arith, length-append}
 use Rattle.std.proofs.lemmas.List.{take-append-drop}
 use Rattle.std.specs.Int.{w32, to_be_bytes, from_be_bytes}
@@ -15,7 +16,8 @@ pub day_written : (number : ℕ) (bytes : List ℕ) → to_be_bytes w32 number �
 unfolding day_bytes four_bytes
 day_written number bytes is = is
 
-pub day_read : (number day : ℕ) (bytes : List ℕ) → number < 2 ^ 32 → to_be_bytes w32 number ≡ bytes → IsDay day
+pub day_read : (number day : ℕ) (bytes : List ℕ) → number < 2 ^ 32 → to_be_bytes w32 number ≡ bytes
+    → IsDay day
     → day_bytes day ≡ bytes → number ≡ day
 unfolding day_bytes four_bytes
 day_read number day bytes small is named other =

@@ -8,7 +8,8 @@ pub stands_for : {D : Type 0} (honest : D → Bool) (seen : D → List ℕ) (ima
     → ((disk : D) → IsTrue (honest disk) → images disk (seen disk))
     → IsLog honest seen images fault_count log → IsTrue (honest log.journal.disk)
     → StandsForLog log (seen log.journal.disk)
-stands_for honest seen images fault_count log seen_is_image is honest_disk = by_case (cases_Bool log.journal.stopped)
+stands_for honest seen images fault_count log seen_is_image is honest_disk =
+    by_case (cases_Bool log.journal.stopped)
   where
     by_case : (log.journal.stopped ≡ true) ⊎ (log.journal.stopped ≡ false)
         → StandsForLog log (seen log.journal.disk)

@@ -22,10 +22,10 @@ abbrev pub IsTorn : {D : Type 0} → (D → List ℕ → Type 0) → LogValue D 
 IsTorn images log entry = (image : List ℕ) → images log.journal.disk image
     → IsWithOrWithout log.journal.lanes log.journal.lane (payloads log.history) (payload entry) image
 
--- What always holds of a log. Its journal has as many records as the history has commands, and the disk's count
--- doesn't fall. As long as no append has failed, an honest disk keeps their payloads, and no command is marked.
--- Once one has failed, its command is marked, no other one is ever, and the disk's count has risen since the log
--- was opened.
+-- What always holds of a log. Its journal has as many records as the history has commands, and the disk's
+-- count doesn't fall. As long as no append has failed, an honest disk keeps their payloads, and no command
+-- is marked. Once one has failed, its command is marked, no other one is ever, and the disk's count has
+-- risen since the log was opened.
 pub record IsLog {D : Type 0} (honest : D → Bool) (seen : D → List ℕ) (images : D → List ℕ → Type 0)
     (fault_count : D → ℕ) (log : LogValue D) : Type 0 where
   pub counted : log.journal.count ≡ length log.history
@@ -38,11 +38,12 @@ pub record IsLog {D : Type 0} (honest : D → Bool) (seen : D → List ℕ) (ima
       × (IsTrue (honest log.journal.disk) → IsTorn images log entry)
   pub caused : log.journal.stopped ≡ true → Rose log.faults (fault_count log.journal.disk)
 
--- What the bytes of an honest disk stand for: the history; or, once an append has failed, that or it and the command
--- whose append failed.
+-- What the bytes of an honest disk stand for: the history; or, once an append has failed, that or it and
+-- the command whose append failed.
 abbrev pub StandsForLog : {D : Type 0} → LogValue D → List ℕ → Type 0
 StandsForLog log bytes =
-    ((log.journal.stopped ≡ false) × StandsFor log.journal.lanes log.journal.lane (payloads log.history) bytes)
+    ((log.journal.stopped ≡ false) × StandsFor log.journal.lanes log.journal.lane
+    (payloads log.history) bytes)
     ⊎ ((entry : Entry) × (log.failed ≡ entry ∷ [])
     × IsWithOrWithout log.journal.lanes log.journal.lane (payloads log.history) (payload entry) bytes)
 
@@ -50,9 +51,10 @@ StandsForLog log bytes =
 abbrev pub MayAppend : {D : Type 0} → LogValue D → ℕ → Type 0
 MayAppend log size = (log.journal.stopped ≡ false) × (IsFull log.journal size → ⊥)
 
--- What an append of a command with so many bytes leaves, by what it answers: the command is acknowledged; or one
--- had failed before; or there is no room; or the disk failed, and the command is marked.
-abbrev pub Appends : {D : Type 0} → (D → ℕ) → LogValue D → LogValue D → Entry → ℕ → Result (Unit {0}) AppendFault → Type 0
+-- What an append of a command with so many bytes leaves, by what it answers: the command is acknowledged;
+-- or one had failed before; or there is no room; or the disk failed, and the command is marked.
+abbrev pub Appends : {D : Type 0} → (D → ℕ) → LogValue D → LogValue D → Entry → ℕ
+    → Result (Unit {0}) AppendFault → Type 0
 Appends fault_count old new entry size (Ok done) = MayAppend old size × (new.journal.stopped ≡ false)
     × (new.history ≡ old.history ++ entry ∷ []) × (new.failed ≡ old.failed)
     × (fault_count new.journal.disk ≡ fault_count old.journal.disk)

@@ -1,5 +1,6 @@
 //! The log of a lane.
-ghost use Rattle.std.specs.Prelude.{◌+◌, ◌^◌, ◌<◌, ◌≡◌, ◌↔◌, ◌≤◌, ◌++◌, ◌∷◌, [], ℕ, true, false, length, IsTrue, IfOk, IfErr, OnOk, OnErr, IsErrOf};
+ghost use Rattle.std.specs.Prelude.{◌+◌, ◌^◌, ◌<◌, ◌≡◌, ◌↔◌, ◌≤◌, ◌++◌, ◌∷◌, [], ℕ, true, false, length};
+ghost use Rattle.std.specs.Prelude.{IsTrue, IfOk, IfErr, OnOk, OnErr, IsErrOf};
 ghost use Rattle.kb_base.specs.Faults.{Rose};
 ghost use Rattle.kb_codec.specs.declared.command.Command.{Command as AnyCommand};
 ghost use Rattle.kb_disk.specs.Moments.{AtEachMoment};
@@ -40,17 +41,19 @@ impl<D: Disk> Model for Log<D> {
       faults = log.faults;
     } };
 
-    ghost invariant = { λ log. (log.count ≡ length log.history) × IsLog D.honest D.seen D.images D.fault_count (record {
-      journal = log.journal;
-      history = log.history;
-      failed = log.failed;
-      opened = log.opened;
-      faults = log.faults;
-    }) };
+    ghost invariant = { λ log. (log.count ≡ length log.history)
+        × IsLog D.honest D.seen D.images D.fault_count (record {
+          journal = log.journal;
+          history = log.history;
+          failed = log.failed;
+          opened = log.opened;
+          faults = log.faults;
+        }) };
 }
 
 impl<D: Disk> Log<D> {
-    /// A log without a command, of this lane of so many, on a disk without bytes. A fault gives the disk back.
+    /// A log without a command, of this lane of so many, on a disk without bytes. A fault gives the disk
+    /// back.
     pub fn create(disk: D, lane: u16, lanes: u16) -> Result<Log<D>, (CreateFault, D)>
         requires some_lanes { 1 ≤ lanes }
         requires few_lanes { lanes ≤ 64 }
@@ -79,7 +82,8 @@ impl<D: Disk> Log<D> {
         requires running { journal.stopped ≡ false }
         requires counted { journal.count ≡ length history }
         requires count { count ≡ length history }
-        requires held { IsTrue (D.honest journal.disk) → Holds D.honest D.seen D.images journal (payloads history) }
+        requires held { IsTrue (D.honest journal.disk) → Holds D.honest D.seen D.images journal
+            (payloads history) }
         ensures { result ≡ record {
           journal = journal;
           history = history;
@@ -99,8 +103,8 @@ impl<D: Disk> Log<D> {
         }
     }
 
-    /// How many commands are acknowledged. As long as no append has failed, each image of an honest disk stands
-    /// for them.
+    /// How many commands are acknowledged. As long as no append has failed, each image of an honest disk
+    /// stands for them.
     pub fn count(&self) -> u64
         ensures count { result ≡ length self.now.history }
         ensures held { self.now.journal.stopped ≡ false → IsTrue (D.honest self.now.journal.disk)
@@ -116,7 +120,8 @@ impl<D: Disk> Log<D> {
         self.journal.lanes()
     }
 
-    /// The disk as it is. If an append has failed, its count of failed calls has risen since the log was opened.
+    /// The disk as it is. If an append has failed, its count of failed calls has risen since the log was
+    /// opened.
     pub fn into_disk(self) -> D
         ensures disk { result ≡ self.journal.disk }
         ensures stands { IsTrue (D.honest self.journal.disk) → StandsForLog self (D.seen self.journal.disk) }
@@ -137,11 +142,13 @@ impl<D: Disk> Log<D> {
     pub fn append(&mut self, today: Day, command: &Command, bytes: &[u8]) -> Result<(), AppendFault>
         requires payload { bytes.now ≡ payload (today, command.now) }
         requires sized { IsSized bytes.now }
-        ensures outcome { Appends D.fault_count self.old self.new (today, command.now) (length bytes.now) result }
+        ensures outcome { Appends D.fault_count self.old self.new (today, command.now)
+            (length bytes.now) result }
         ensures few { OnOk result (length self.old.history < 2 ^ 32) }
         ensures moments { self.old.journal.stopped ≡ false → IsTrue (D.honest self.old.journal.disk)
             → AtEachMoment D.moment D.left_since self.old.journal.disk self.new.journal.disk
-            (IsWithOrWithout self.old.journal.lanes self.old.journal.lane (payloads self.old.history) bytes.now) }
+            (IsWithOrWithout self.old.journal.lanes self.old.journal.lane
+            (payloads self.old.history) bytes.now) }
         ensures same { (self.new.opened ≡ self.old.opened) × (self.new.faults ≡ self.old.faults) }
         ensures place { (self.new.journal.lanes ≡ self.old.journal.lanes)
             × (self.new.journal.lane ≡ self.old.journal.lane) }

@@ -14,8 +14,8 @@ use kb_days::Day;
 use kb_journal::MAX_RECORD;
 use std::alloc::Global;
 
-/// A command with the day on which it came, as it is written down: in 5 to 65,536 bytes. A longer one finds no
-/// memory; no command has one, since a text has at most 60,000 bytes.
+/// A command with the day on which it came, as it is written down: in 5 to 65,536 bytes. A longer one finds
+/// no memory; no command has one, since a text has at most 60,000 bytes.
 pub fn payload_of(alloc: Global, today: Day, command: &Command) -> Result<Vec<u8>, NoMemory>
     ensures payload { IfOk result (λ bytes. bytes.items ≡ payload (today, command.now)) }
     ensures sized { IfOk result (λ bytes. IsSized bytes.items) }

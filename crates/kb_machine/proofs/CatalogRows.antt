@@ -1,5 +1,6 @@
 -- Whether a version may be added, as the catalog says it and as the rows of refusals do.
-use Rattle.std.proofs.Common.{◌≡◌, ℕ, ◌<◌, ◌≤◌, ◌==◌, true, false, Bool, nat_le, List, length, Option, Some, None, refl, arith}
+use Rattle.std.proofs.Common.{◌≡◌, ℕ, ◌<◌, ◌≤◌, ◌==◌, true, false, Bool, nat_le, List, length, Option, Some}
+use Rattle.std.proofs.Common.{None, refl, arith}
 use Rattle.std.proofs.Common.{IfSome, IsSomeAnd}
 use Rattle.std.proofs.lemmas.Bool.Decides.{nat_tests}
 use Rattle.kb_catalog.specs.declared.version.Version.{Version}
@@ -9,12 +10,14 @@ use Rattle.kb_book.specs.Rows.{first_refusal, limit}
 use Rattle.kb_machine.specs.Texts.{is_dated_before, last_version, catalog_rows}
 
 dated-early : (last : Option Version) (version : Version)
-    → IsSomeAnd last (λ (old : Version). version.effective ≤ old.effective) → is_dated_before last version ≡ true
+    → IsSomeAnd last (λ (old : Version). version.effective ≤ old.effective)
+    → is_dated_before last version ≡ true
 dated-early None version early = absurd early
 dated-early (Some last) version early = grind (arith, nat_tests)
 
 dated-later : (last : Option Version) (version : Version)
-    → IfSome last (λ (old : Version). old.effective < version.effective) → is_dated_before last version ≡ false
+    → IfSome last (λ (old : Version). old.effective < version.effective)
+    → is_dated_before last version ≡ false
 dated-later None version later = refl
 dated-later (Some last) version later = grind (arith, nat_tests)
 

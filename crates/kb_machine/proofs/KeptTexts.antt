@@ -11,12 +11,14 @@ use Rattle.kb_machine.specs.Judged.{Judged, Again, refusal_in}
 use Rattle.kb_machine.specs.Texts.{KeptText, TextsValue, by_key}
 
 -- what is found in a map is found among its entries
-pub text_found : {X : Type 0} (keys : FinMap by_words X) (key : List ℕ) (found : Option X) → found ≡ get keys key
+pub text_found : {X : Type 0} (keys : FinMap by_words X) (key : List ℕ) (found : Option X)
+    → found ≡ get keys key
     → find by_words key (entries keys) ≡ found
 text_found keys key found is = sym (is ∙ get-entries keys key)
 
 -- what is put into a map is put among its entries
-pub text_kept : {X : Type 0} (old new : FinMap by_words X) (key : List ℕ) (value : X) → new ≡ insert old key value
+pub text_kept : {X : Type 0} (old new : FinMap by_words X) (key : List ℕ) (value : X)
+    → new ≡ insert old key value
     → entries new ≡ put by_words key value (entries old)
 text_kept old new key value is = ap entries is ∙ entries-insert nat_list_cmp_total old key value
 
@@ -30,7 +32,8 @@ pub told_again : (found : Option KeptText) (kept : KeptText) (spelled : List ℕ
     → found ≡ Some kept → ((new : Judged ℕ TextsValue) → by_key (Some kept) spelled new ≡ Again number)
     → (new : Judged ℕ TextsValue) → by_key found spelled new ≡ Again number
 told_again found kept spelled number is again new =
-    let P : Option KeptText → Type 0 = λ found. by_key found spelled new ≡ Again number in subst P (sym is) (again new)
+    let P : Option KeptText → Type 0 = λ found. by_key found spelled new
+    ≡ Again number in subst P (sym is) (again new)
 
 pub told_refused : (found : Option KeptText) (kept : KeptText) (spelled : List ℕ) (fault : Unprepared)
     → found ≡ Some kept

@@ -1,5 +1,6 @@
 -- Books by name, as std's map has them and as the definitions have them.
-use Rattle.std.proofs.Common.{◌≡◌, ℕ, true≢false, refl, sym, ap, ◌∙◌, List, [], ◌∷◌, Option, Some, None, cond, IsSome}
+use Rattle.std.proofs.Common.{◌≡◌, ℕ, true≢false, refl, sym, ap, ◌∙◌, List, [], ◌∷◌, Option, Some, None, cond}
+use Rattle.std.proofs.Common.{IsSome}
 use Rattle.std.proofs.Common.{◌<◌, length, get_or, AllPairs}
 use Rattle.std.proofs.lemmas.Map.Keys.{Less-from_sorted}
 use Rattle.std.specs.declared.cmp.Ordering.TheVariants.{Less, Equal, Greater}
@@ -65,12 +66,14 @@ find-below k first (e ∷ es) less all =
     rw below (find-below k first es less all.1)
 
 -- what is written at a key that is there is put in
-set-put : {X : Type 0} (k : List ℕ) (w : X) (es : List (List ℕ × X)) → IsStrictlySortedBy by_words (keys_of es)
+set-put : {X : Type 0} (k : List ℕ) (w : X) (es : List (List ℕ × X))
+    → IsStrictlySortedBy by_words (keys_of es)
     → IsSome (find by_words k es) → set_value (is_at (by_words k)) es w ≡ put by_words k w es
 unfolding IsStrictlySortedBy
 set-put k w [] sorted there = absurd (true≢false (sym there))
 set-put k w (e ∷ es) sorted there =
-    elim (by_words k e.0) as (λ r. by_words k e.0 ≡ r → IsSome (cond (is_eq r) (Some e.1) (find by_words k es))
+    elim (by_words k e.0) as (λ r. by_words k e.0 ≡ r → IsSome
+    (cond (is_eq r) (Some e.1) (find by_words k es))
     → cond (is_eq r) ((e.0, w) ∷ es) (e ∷ set_value (is_at (by_words k)) es w)
     ≡ by_order r ((k, w) ∷ e ∷ es) ((e.0, w) ∷ es) (e ∷ put by_words k w es)) [
       | Less ↦ λ is found. absurd (true≢false (sym (rw (find-below k e.0 es is sorted.0) at found)))

@@ -1,5 +1,6 @@
 -- An account that isn't there is opened.
-use Rattle.std.proofs.Common.{◌≡◌, ℕ, ◌<◌, nat_le, Bool, false, length, List, [], ◌∷◌, Option, None, sym, ap, subst, arith}
+use Rattle.std.proofs.Common.{◌≡◌, ℕ, ◌<◌, nat_le, Bool, false, length, List, [], ◌∷◌, Option, None, sym, ap}
+use Rattle.std.proofs.Common.{subst, arith}
 use Rattle.std.proofs.lemmas.Bool.Decides.{nat_tests}
 use Rattle.kb_days.specs.Calendar.{first_day, charged_days}
 use Rattle.kb_codec.specs.declared.command.Command.{Command}
@@ -12,7 +13,8 @@ use Rattle.kb_book.specs.Steps.{Outcome, accepted_over}
 use Rattle.kb_account.specs.Prepares.{opening_book}
 use Rattle.kb_reply.specs.declared.reply.LaneReply.TheVariants as replies
 use Rattle.kb_machine.specs.Judged.{New, lifted, unless_refused}
-use Rattle.kb_machine.specs.Machines.{MachineValue, max_accounts, account_of, book_of, with_book, account_judged}
+use Rattle.kb_machine.specs.Machines.{MachineValue, max_accounts, account_of, book_of, with_book}
+use Rattle.kb_machine.specs.Machines.{account_judged}
 use Rattle.kb_machine.specs.Machines.{by_book, of_outcome}
 
 room : (count : ℕ) → count < max_accounts → nat_le max_accounts count ≡ false
@@ -20,7 +22,8 @@ room count few = grind (arith, nat_tests)
 
 opened-account : (machine : MachineValue) (today : ℕ) (c : OpenAccount) (answer : Answer) (book : BookValue)
     → book_of machine c.account ≡ None → length machine.books < max_accounts
-    → accepted_over machine.texts.world (opening_book (kinds.OpenAccount c)) today (kinds.OpenAccount c) first_day
+    → accepted_over machine.texts.world (opening_book (kinds.OpenAccount c)) today
+    (kinds.OpenAccount c) first_day
     charged_days ≡ (answer, book)
     → account_judged machine today (kinds.OpenAccount c)
     ≡ New (replies.Accepted answer) (with_book machine c.account book)
@@ -36,7 +39,8 @@ opened-account machine today c answer book absent few first =
     subst Found (sym absent) (subst Full (sym (room (length machine.books) few)) (ap (λ (outcome : Outcome).
     lifted replies.Accepted (with_book machine c.account) (of_outcome outcome)) first))
 
-pub opened_account : (machine : MachineValue) (today : ℕ) (command : Command) (c : OpenAccount) (account : List ℕ)
+pub opened_account : (machine : MachineValue) (today : ℕ) (command : Command) (c : OpenAccount)
+    (account : List ℕ)
     (answer : Answer) (book : BookValue) → command ≡ kinds.OpenAccount c → account ≡ account_of command
     → book_of machine account ≡ None → length machine.books < max_accounts
     → accepted_over machine.texts.world (opening_book command) today command first_day charged_days

@@ -20,7 +20,8 @@ unfolding replay
 replay-more history entry = fold-append entry_after no_machine history (entry ∷ [])
 
 -- a new command leads to what it makes of what was there
-pub replay_new : (history : History) (today : ℕ) (command : Command) (reply : LaneReply) (after : MachineValue)
+pub replay_new : (history : History) (today : ℕ) (command : Command) (reply : LaneReply)
+    (after : MachineValue)
     → judged (replay history) today command ≡ New reply after
     → replay (history ++ (today, command) ∷ []) ≡ after
 replay_new history today command reply after new =

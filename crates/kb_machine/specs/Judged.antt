@@ -2,8 +2,8 @@
 use Rattle.std.specs.Prelude.{true, false, Bool, Option, Some, None}
 use Rattle.kb_book.specs.declared.refusal.Refusal.{Refusal}
 
--- It is new: this is its reply, and what there is after it. Or it came before, and gets its reply again. Or it
--- is refused. Only a new one changes what there is.
+-- It is new: this is its reply, and what there is after it. Or it came before, and gets its reply again. Or
+-- it is refused. Only a new one changes what there is.
 pub data Judged (R A : Type 0) : Type 0 where
   New : R → A → Judged R A
   Again : R → Judged R A

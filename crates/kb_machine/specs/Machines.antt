@@ -98,7 +98,8 @@ of_outcome outcome = New outcome.0 outcome.1
 abbrev pub opened_judged : MachineValue → ℕ → Command → Judged Answer BookValue
 opened_judged machine today command =
     unless_refused (first_refusal (opening_rows machine))
-    (of_outcome (accepted_over machine.texts.world (opening_book command) today command first_day charged_days))
+    (of_outcome (accepted_over machine.texts.world (opening_book command) today command first_day
+    charged_days))
 
 -- what a command comes to on an account that isn't there: it may be opened
 abbrev pub absent_judged : MachineValue → ℕ → Command → Judged Answer BookValue

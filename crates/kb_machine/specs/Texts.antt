@@ -1,5 +1,6 @@
 -- The texts of a lane, and what becomes of one that is handed in.
-use Rattle.std.specs.Prelude.{ℕ, ◌+◌, ◌-◌, ◌==◌, ◌≡◌, Bool, true, false, nat_le, bytes_eq, List, [], ◌∷◌, ◌++◌, length}
+use Rattle.std.specs.Prelude.{ℕ, ◌+◌, ◌-◌, ◌==◌, ◌≡◌, Bool, true, false, nat_le, bytes_eq, List, [], ◌∷◌}
+use Rattle.std.specs.Prelude.{◌++◌, length}
 use Rattle.std.specs.Prelude.{slice_get, Option, Some, None, if◌then◌else◌, refl}
 use Rattle.std.specs.FinMap.{find, put}
 use Rattle.kb_sharing.specs.Keys.{by_words}
@@ -21,8 +22,8 @@ pub record KeptText : Type 0 where
   pub spelling : List ℕ
   pub number : ℕ
 
--- What the texts of a lane say, and those that were accepted, by their request keys. The keys of catalog texts
--- and those of overdue texts are kept apart.
+-- What the texts of a lane say, and those that were accepted, by their request keys. The keys of catalog
+-- texts and those of overdue texts are kept apart.
 pub record TextsValue : Type 0 where
   pub world : WorldValue
   pub catalogs : Keyed KeptText
@@ -57,7 +58,8 @@ abbrev pub with_catalog : TextsValue → Catalog → TextsValue
 with_catalog texts c = record texts {
   world = record texts.world { versions = texts.world.versions ++ c.text.version ∷ [] };
   catalogs = put by_words c.key
-      (record { spelling = spelling (kinds.Catalog c); number = length texts.world.versions + 1 }) texts.catalogs;
+      (record { spelling = spelling (kinds.Catalog c); number = length texts.world.versions + 1 })
+      texts.catalogs;
 }
 
 abbrev pub new_catalog : TextsValue → Catalog → Judged ℕ TextsValue

@@ -1,5 +1,6 @@
 //! The books of accounts, by name.
-ghost use Rattle.std.specs.Prelude.{◌≡◌, ◌<◌, ◌^◌, [], length, option_copied, IsSome, IfOk, OnOk, OnErr, None, map, List, ℕ};
+ghost use Rattle.std.specs.Prelude.{◌≡◌, ◌<◌, ◌^◌, [], length, option_copied, IsSome, IfOk, OnOk, OnErr};
+ghost use Rattle.std.specs.Prelude.{None, map, List, ℕ};
 ghost use Rattle.std.specs.List.{AllPairs};
 ghost use Rattle.std.specs.FinMap.{find, put};
 ghost use Rattle.kb_sharing.specs.Keys.{by_words};
@@ -53,8 +54,8 @@ impl Books {
         self.by_name.get(account)
     }
 
-    /// Adds the book of an account, or takes the place of the one before. Out of memory, the books are as they
-    /// were.
+    /// Adds the book of an account, or takes the place of the one before. Out of memory, the books are as
+    /// they were.
     #[tactic(auto, using(crate::proofs::NamedBooks::insert_put))]
     pub fn insert(&mut self, account: Name, book: Book) -> Result<(), NoMemory>
         ensures ok { OnOk result (self.new ≡ put by_words account book self.old) }
@@ -77,7 +78,8 @@ impl Books {
     /// The names of the accounts, in their order. None is there twice.
     pub fn names(&self, alloc: Global) -> Result<Vec<Name>, NoMemory>
         ensures names { IfOk result (λ names. names.items ≡ map (λ entry. entry.0) self.now) }
-        ensures apart { IfOk result (λ names. AllPairs (λ (one other : List ℕ). one ≡ other → ⊥) names.items) }
+        ensures apart { IfOk result (λ names. AllPairs (λ (one other : List ℕ). one ≡ other → ⊥)
+            names.items) }
     {
         let mut names = Vec::with_capacity(alloc, self.len())?;
         for name in self.by_name.keys() {

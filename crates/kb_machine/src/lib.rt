@@ -1,9 +1,9 @@
 //! The machine: the texts of a shop and the books of its accounts, and what a command makes of them.
 //!
-//! The rule kept here: a command gets the reply that the definitions give, and only a new one changes anything:
-//! a text adds to what accounts are looked at by, any other command changes the book of its own account alone.
-//! `prepare` changes nothing, and what it gives is taken in without memory, but for the room of a new account:
-//! so a layer above can write a command down before it is taken in.
+//! The rule kept here: a command gets the reply that the definitions give, and only a new one changes
+//! anything: a text adds to what accounts are looked at by, any other command changes the book of its own
+//! account alone. `prepare` changes nothing, and what it gives is taken in without memory, but for the room
+//! of a new account: so a layer above can write a command down before it is taken in.
 #![tactic(auto)]
 
 mod account;

@@ -66,15 +66,16 @@ impl Machine {
         }
     }
 
-    /// What is planned for a command that comes on a day. An `Err` is the first refusal, or comes if memory runs
-    /// out. Nothing is changed.
+    /// What is planned for a command that comes on a day. An `Err` is the first refusal, or comes if memory
+    /// runs out. Nothing is changed.
     pub fn prepare(
         &self,
         alloc: Global,
         today: Day,
         command: &Command,
     ) -> Result<Planned, Unprepared>
-        ensures judged { IfOk result (λ planned. judged self.now today command.now ≡ plan_judged self.now planned) }
+        ensures judged { IfOk result (λ planned. judged self.now today command.now
+            ≡ plan_judged self.now planned) }
         ensures fits { IfOk result (Fits self.now) }
         ensures refused { IfErr result (IsUnprepared (refusal_in (judged self.now today command.now))) }
     {
@@ -158,7 +159,8 @@ impl Machine {
         ensures judged { IfOk result (λ planned. account_judged self.now today command.now
             ≡ plan_judged self.now planned) }
         ensures fits { IfOk result (Fits self.now) }
-        ensures refused { IfErr result (IsUnprepared (refusal_in (account_judged self.now today command.now))) }
+        ensures refused { IfErr result (IsUnprepared (refusal_in
+            (account_judged self.now today command.now))) }
     {
         match self.books.get(&account) {
             Some(book) => planned_on(book, alloc, &self.world, today, command, account),
@@ -180,7 +182,8 @@ impl Machine {
         ensures judged { IfOk result (λ planned. account_judged self.now today command.now
             ≡ plan_judged self.now planned) }
         ensures fits { IfOk result (Fits self.now) }
-        ensures refused { IfErr result (IsUnprepared (refusal_in (account_judged self.now today command.now))) }
+        ensures refused { IfErr result (IsUnprepared (refusal_in
+            (account_judged self.now today command.now))) }
     {
         let Command::OpenAccount(_) = command else {
             return Err(Unprepared::Refused(Refusal::NoAccount));
@@ -203,7 +206,8 @@ impl Machine {
     #[tactic(auto, using(crate::proofs::TextRefusals::refused_catalog, crate::proofs::TextRefusals::refused_overdue), unfolding(crate::specs::Machines::judged))]
     fn plan_text(&self, alloc: Global, today: Day, command: &Command) -> Result<Planned, Unprepared>
         requires text { is_text command.now ≡ true }
-        ensures judged { IfOk result (λ planned. judged self.now today command.now ≡ plan_judged self.now planned) }
+        ensures judged { IfOk result (λ planned. judged self.now today command.now
+            ≡ plan_judged self.now planned) }
         ensures fits { IfOk result (Fits self.now) }
         ensures refused { IfErr result (IsUnprepared (refusal_in (judged self.now today command.now))) }
     {

@@ -101,7 +101,8 @@ fn told_number(
         → by_key (find by_words key.now (entries keys.now)) spelling.now new ≡ Again number)) }
     ensures fresh { IfOk result (λ told. IfNone told (find by_words key.now (entries keys.now) ≡ None)) }
     ensures refused { IfErr result (λ fault. (new : Judged ℕ TextsValue)
-        → IsUnprepared (refusal_in (by_key (find by_words key.now (entries keys.now)) spelling.now new)) fault) }
+        → IsUnprepared (refusal_in (by_key (find by_words key.now (entries keys.now)) spelling.now new))
+        fault) }
 {
     match keys.get(key) {
         Some(kept) => match kept_number(kept, spelling) {
@@ -147,7 +148,8 @@ fn with_text(
 fn with_version(alloc: Global, world: &World, text: &Checked) -> Result<Catalog, Unprepared>
     ensures added { IfOk result (λ after. after ≡ world.now.versions ++ text.now.version ∷ []) }
     ensures allowed { OnOk result (first_refusal (catalog_rows world.now.versions text.now.version) ≡ None) }
-    ensures refused { IfErr result (IsUnprepared (first_refusal (catalog_rows world.now.versions text.now.version))) }
+    ensures refused { IfErr result (IsUnprepared (first_refusal
+        (catalog_rows world.now.versions text.now.version))) }
 {
     let version = version_of(alloc, text)?;
     match world.catalog.add(alloc, version) {

@@ -1,5 +1,6 @@
 -- A summary is determined by the numbers that it is made of.
-use Rattle.std.proofs.Common.{◌≡◌, ℕ, zero, suc, ◌+◌, List, [], ◌∷◌, Result, Ok, if◌then◌else◌, refl, sym, ap, ap₂, subst, ◌∙◌}
+use Rattle.std.proofs.Common.{◌≡◌, ℕ, zero, suc, ◌+◌, List, [], ◌∷◌, Result, Ok, if◌then◌else◌, refl, sym, ap}
+use Rattle.std.proofs.Common.{ap₂, subst, ◌∙◌}
 use Rattle.kb_days.specs.Dates.{january}
 use Rattle.kb_catalog_text.specs.declared.fault.TextFault.{TextFault}
 use Rattle.kb_catalog_text.specs.Texts.{CatalogText, OverdueText, catalog_read, overdue_read}
@@ -24,7 +25,8 @@ done-stays (suc count) today machine = done-stays count today machine
 ends-stays : (count today : ℕ) (busy : Busy) (last other : MachineValue) → busy ≡ done last
     → done_times count today busy ≡ done other → last ≡ other
 ends-stays count today busy last other is ends =
-    ap (λ (one : Busy). one.machine) (sym (done-stays count today last) ∙ sym (ap (done_times count today) is) ∙ ends)
+    ap (λ (one : Busy). one.machine) (sym (done-stays count today last) ∙ sym (ap (done_times count today) is)
+    ∙ ends)
 
 times-once : (count more today : ℕ) (busy : Busy) (last other : MachineValue)
     → done_times count today busy ≡ done last → done_times more today busy ≡ done other → last ≡ other
@@ -40,16 +42,21 @@ done-once today busy last other one two = times-once one.0 two.0 today busy last
 
 -- commands lead to one end, and so many are refused
 sends-once : (entries : List Entry) (machine last other : MachineValue) (refused more : ℕ)
-    → Sends machine entries last refused → Sends machine entries other more → (last ≡ other) × (refused ≡ more)
+    → Sends machine entries last refused → Sends machine entries other more → (last ≡ other)
+    × (refused ≡ more)
 sends-once [] machine last other refused more one two = (one.0 ∙ sym two.0, one.1 ∙ sym two.1)
 sends-once (entry ∷ later) machine last other refused more one two =
     let same : two.0 ≡ one.0 = done-once entry.0 _ two.0 one.0 two.2 one.2 in
     let moved = subst (λ (next : MachineValue). Sends next later other two.1) same two.3 in
-    let rest = sends-once later one.0 last other one.1 two.1 one.3 moved in
-    (rest.0, one.4 ∙ ap (λ (others : ℕ). (if is_refused machine entry then 1 else 0) + others) rest.1 ∙ sym two.4)
+    let rest = sends-once later one.0 last other one.1 two.1 one.3 moved in (
+      rest.0,
+      one.4 ∙ ap (λ (others : ℕ). (if is_refused machine entry then 1 else 0) + others) rest.1
+          ∙ sym two.4,
+    )
 
 -- a text says one thing
-said-once : {A : Type 0} (read : Result A TextFault) (one other : A) → read ≡ Ok one → read ≡ Ok other → one ≡ other
+said-once : {A : Type 0} (read : Result A TextFault) (one other : A) → read ≡ Ok one → read ≡ Ok other
+    → one ≡ other
 said-once read one other said told = cc
 
 catalog-once : (one other : CatalogText) → one.text ≡ other.text → catalog_read one.text ≡ Ok one.version
@@ -75,9 +82,11 @@ makes-once seed accounts months last other refused more one two =
     two.texts.catalog_said one.texts.catalog_said in
     let overdues = overdue-once two.overdue one.overdue (two.texts.overdue_kept ∙ sym one.texts.overdue_kept)
     two.texts.overdue_said one.texts.overdue_said in
-    let start = ap₂ (λ (catalog : CatalogText) (overdue : OverdueText). replay (first_commands (january 1) catalog overdue))
+    let start = ap₂ (λ (catalog : CatalogText) (overdue : OverdueText). replay
+    (first_commands (january 1) catalog overdue))
     catalogs overdues in
-    let moved = subst (λ (first : MachineValue). Sends first (commands_of seed accounts months) other more) start two.sends in
+    let moved = subst (λ (first : MachineValue). Sends first (commands_of seed accounts months) other more)
+    start two.sends in
     sends-once (commands_of seed accounts months) _ last other refused more one.sends moved
 
 -- and so is the text

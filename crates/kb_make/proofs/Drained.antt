@@ -1,5 +1,6 @@
 -- A lane whose outbox is handled to its end has done all that was to do, if its gateway takes each payment.
-use Rattle.std.proofs.Common.{◌≡◌, ℕ, zero, suc, List, [], ◌∷◌, Option, None, Some, map, Result, Ok, refl, sym, ap, subst, ◌∙◌}
+use Rattle.std.proofs.Common.{◌≡◌, ℕ, zero, suc, List, [], ◌∷◌, Option, None, Some, map, Result, Ok, refl}
+use Rattle.std.proofs.Common.{sym, ap, subst, ◌∙◌}
 use Rattle.kb_base.specs.declared.fault.Failed.{Failed}
 use Rattle.kb_gateway.specs.declared.order.Asked.{Asked}
 use Rattle.kb_gateway.specs.declared.told.Call.{Call}
@@ -28,7 +29,8 @@ Past = List (Asked × Call)
 abbrev said : Past → Option (List Saying)
 said past = Some (map saying_of past)
 
-module _ {D : Type 0} (fault_count : D → ℕ) (asked : Past → Option (List Asked)) (faults : Past → ℕ) (today : ℕ) where
+module _ {D : Type 0} (fault_count : D → ℕ) (asked : Past → Option (List Asked)) (faults : Past → ℕ)
+    (today : ℕ) where
   -- a lane that accepts a command, if there is one, is as busy as that leaves it
   accepts-done : (old new : LaneValue D Past) (later : List Work) (due : Option Command)
       → Accepts fault_count (with_outbox old later) new today due steps.Done
@@ -80,7 +82,8 @@ module _ {D : Type 0} (fault_count : D → ℕ) (asked : Past → Option (List A
   front-idle old new (Check account ∷ later) handles =
       absurd (looks-busy old new (Check account) later (due_of (machine_of old) today account) handles)
   front-idle old new (Ask account key ∷ later) handles =
-      absurd (accepts-busy (with_outbox old later) new (settled_by account key handles.answer) handles.settled)
+      absurd (accepts-busy (with_outbox old later) new (settled_by account key handles.answer)
+      handles.settled)
 
   -- so many things are done, and nothing is left to do
   ends-done : (count : ℕ) (old new : LaneValue D Past)

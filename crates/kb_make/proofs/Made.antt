@@ -14,7 +14,8 @@ use Rattle.kb_make.specs.Private.ShopTexts.{AreShopTexts}
 use Rattle.kb_make.proofs.ShopTexts.{are_texts}
 
 -- its summary
-pub summary_made : (seed accounts months refused : ℕ) (first last : MachineValue) (totals : Totals) (text : List ℕ)
+pub summary_made : (seed accounts months refused : ℕ) (first last : MachineValue) (totals : Totals)
+    (text : List ℕ)
     → (catalog : CatalogText) × (overdue : OverdueText) × AreShopTexts catalog overdue
     × (first ≡ replay (first_commands (january 1) catalog overdue))
     → Sends first (commands_of seed accounts months) last refused → totals ≡ totals_of (last ∷ [])
@@ -26,7 +27,8 @@ summary_made seed accounts months refused first last totals text texts sends sum
     catalog = texts.0;
     overdue = texts.1;
     texts = are_texts texts.0 texts.1 texts.2;
-    sends = subst (λ (machine : MachineValue). Sends machine (commands_of seed accounts months) last refused) texts.3
+    sends = subst (λ (machine : MachineValue). Sends machine (commands_of seed accounts months) last refused)
+        texts.3
         sends;
   };
   told = told ∙ ap (λ (one : Totals). summary_text one refused) sums;

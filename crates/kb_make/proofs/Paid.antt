@@ -12,7 +12,8 @@ use Rattle.kb_gateway.specs.Answers.{Notes, heard_of_ask, said_of_ask}
 use Rattle.kb_make.specs.Private.Sayings.{saying_of}
 
 -- what is heard of an answer that went through
-heard-paid : (answer : Result Told Failed) → heard.Told Processed ≡ heard_of_ask answer → answer ≡ Ok Processed
+heard-paid : (answer : Result Told Failed) → heard.Told Processed ≡ heard_of_ask answer
+    → answer ≡ Ok Processed
 heard-paid (Ok told) is = cc
 heard-paid (Err failed) is = cc
 

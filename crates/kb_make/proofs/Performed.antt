@@ -1,5 +1,6 @@
 -- What the performing of a command leaves, by its reply.
-use Rattle.std.proofs.Common.{◌≡◌, ℕ, Bool, true, false, true≢false, ◌&&◌, List, [], ◌++◌, if◌then◌else◌, is_some, IfOk, OnOk, refl, sym, ap, ap₂, ◌∙◌}
+use Rattle.std.proofs.Common.{◌≡◌, ℕ, Bool, true, false, true≢false, ◌&&◌, List, [], ◌++◌, if◌then◌else◌}
+use Rattle.std.proofs.Common.{is_some, IfOk, OnOk, refl, sym, ap, ap₂, ◌∙◌}
 use Rattle.kb_codec.specs.declared.command.Command.{Command}
 use Rattle.kb_reply.specs.declared.reply.LaneReply.{LaneReply}
 use Rattle.kb_reply.specs.declared.reply.LaneReply.TheVariants as replies
@@ -21,12 +22,16 @@ told-unrefused : {A : Type 0} (told : Judged LaneReply A) (reply : LaneReply) �
     → is_accepted reply ≡ true → is_some (refusal_in told) ≡ false
 told-unrefused (New own after) reply is accepts = refl
 told-unrefused (Again own) reply is accepts = refl
-told-unrefused (Refused refusal) reply is accepts = absurd (true≢false (sym accepts ∙ sym (ap is_accepted is)))
+told-unrefused (Refused refusal) reply is accepts = absurd
+    (true≢false (sym accepts ∙ sym (ap is_accepted is)))
 
-told-refusal : {A : Type 0} (told : Judged LaneReply A) (reply : LaneReply) → Accepts told → reply_of told ≡ reply
+told-refusal : {A : Type 0} (told : Judged LaneReply A) (reply : LaneReply) → Accepts told
+    → reply_of told ≡ reply
     → is_accepted reply ≡ false → is_some (refusal_in told) ≡ true
-told-refusal (New own after) reply accepts is refuses = absurd (true≢false (sym accepts ∙ ap is_accepted is ∙ refuses))
-told-refusal (Again own) reply accepts is refuses = absurd (true≢false (sym accepts ∙ ap is_accepted is ∙ refuses))
+told-refusal (New own after) reply accepts is refuses =
+    absurd (true≢false (sym accepts ∙ ap is_accepted is ∙ refuses))
+told-refusal (Again own) reply accepts is refuses = absurd
+    (true≢false (sym accepts ∙ ap is_accepted is ∙ refuses))
 told-refusal (Refused refusal) reply accepts is refuses = refl
 
 -- what isn't new changes nothing
@@ -36,12 +41,14 @@ unnew-stays before (New reply after) old = absurd (true≢false old)
 unnew-stays before (Again reply) old = refl
 unnew-stays before (Refused refusal) old = refl
 
-refused-unnew : {A : Type 0} (told : Judged LaneReply A) → is_some (refusal_in told) ≡ true → is_new told ≡ false
+refused-unnew : {A : Type 0} (told : Judged LaneReply A) → is_some (refusal_in told) ≡ true
+    → is_new told ≡ false
 refused-unnew (New reply after) refused = absurd (true≢false (sym refused))
 refused-unnew (Again reply) refused = refl
 refused-unnew (Refused refusal) refused = refl
 
-module _ {D G : Type 0} (old new : LaneValue D G) (today : ℕ) (command : Command) (idle : old.outbox ≡ []) where
+module _ {D G : Type 0} (old new : LaneValue D G) (today : ℕ) (command : Command)
+    (idle : old.outbox ≡ []) where
   abbrev told : Judged LaneReply MachineValue
   told = judged (machine_of old) today command
 
@@ -54,7 +61,8 @@ module _ {D G : Type 0} (old new : LaneValue D G) (today : ℕ) (command : Comma
   taken-sent fresh takes =
       busy_same (machine_of new) _ new.outbox _
       (ap replay takes.history ∙ replay_more old.log.history (today, command))
-      (takes.outbox ∙ ap (λ (works : List Work). works ++ work_of (today, command)) idle ∙ ap works-if (sym fresh))
+      (takes.outbox ∙ ap (λ (works : List Work). works ++ work_of (today, command)) idle
+      ∙ ap works-if (sym fresh))
 
   -- or the lane is as it was
   untaken-sent : is_new told ≡ false → new ≡ old → busy_of new ≡ sent (machine_of old) (today, command)
@@ -66,7 +74,8 @@ module _ {D G : Type 0} (old new : LaneValue D G) (today : ℕ) (command : Comma
   module _ (reply : LaneReply) (is : IsReply told reply)
       (taken : is_taken told reply ≡ true → Takes old new (today, command))
       (untaken : is_taken told reply ≡ false → (reply ≡ replies.DiskFault → ⊥) → new ≡ old) where
-    accepted-sent : is_accepted reply ≡ true → (reply ≡ replies.DiskFault → ⊥) → (fresh : Bool) → is_new told ≡ fresh
+    accepted-sent : is_accepted reply ≡ true → (reply ≡ replies.DiskFault → ⊥) → (fresh : Bool)
+        → is_new told ≡ fresh
         → busy_of new ≡ sent (machine_of old) (today, command)
     accepted-sent accepts calm true fresh =
         taken-sent fresh (taken (ap₂ (λ (one other : Bool). one && other) fresh accepts))
@@ -91,7 +100,8 @@ module _ {D G : Type 0} (old new : LaneValue D G) (today : ℕ) (command : Comma
       accepted-sent (replies.States number) is taken untaken refl (λ fault. cc) (is_new told) refl
   performed_sent (replies.Refused refusal) is taken untaken =
       refused-sent (replies.Refused refusal) is taken untaken
-      (told-refusal told (replies.Refused refusal) (judged_accepts (machine_of old) today command) is refl) (λ fault. cc)
+      (told-refusal told (replies.Refused refusal) (judged_accepts (machine_of old) today command) is refl)
+      (λ fault. cc)
   performed_sent replies.DiskFault is taken untaken = tt
   performed_sent (replies.Stopped count) is taken untaken = tt
   performed_sent (replies.Full commands size) is taken untaken = tt
@@ -108,7 +118,8 @@ performed_refused machine today command (replies.Version number) is =
 performed_refused machine today command (replies.States number) is =
     sym (told-unrefused (judged machine today command) (replies.States number) is refl)
 performed_refused machine today command (replies.Refused refusal) is =
-    sym (told-refusal (judged machine today command) (replies.Refused refusal) (judged_accepts machine today command) is
+    sym (told-refusal (judged machine today command) (replies.Refused refusal)
+    (judged_accepts machine today command) is
     refl)
 performed_refused machine today command replies.DiskFault is = tt
 performed_refused machine today command (replies.Stopped count) is = tt

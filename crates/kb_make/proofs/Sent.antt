@@ -1,5 +1,6 @@
 -- Commands that are sent one after another.
-use Rattle.std.proofs.Common.{◌≡◌, ℕ, ◌+◌, Bool, true, false, true≢false, List, [], ◌∷◌, if◌then◌else◌, ◌≤◌, zero-add, refl, sym, ap, subst, ◌∙◌, arith}
+use Rattle.std.proofs.Common.{◌≡◌, ℕ, ◌+◌, Bool, true, false, true≢false, List, [], ◌∷◌, if◌then◌else◌, ◌≤◌}
+use Rattle.std.proofs.Common.{zero-add, refl, sym, ap, subst, ◌∙◌, arith}
 use mir.Val.{bool_byte}
 use Rattle.kb_codec.specs.declared.command.Command.{Command}
 use Rattle.kb_codec.specs.declared.command.Command.TheVariants as kinds
@@ -40,7 +41,8 @@ pub counted : (flag : Bool) (count : ℕ) → count ≡ bool_byte flag → count
 counted true count is = omega (arith, is)
 counted false count is = omega (arith, is)
 
-pub one_sent : (first now next : MachineValue) (all left : List Entry) (entry : Entry) (refused count : ℕ) (flag : Bool)
+pub one_sent : (first now next : MachineValue) (all left : List Entry) (entry : Entry)
+    (refused count : ℕ) (flag : Bool)
     → Completes first all now (entry ∷ left) refused → IsDoneWith entry.0 (sent now entry) next
     → flag ≡ is_refused now entry → count ≡ bool_byte flag → Completes first all next left (refused + count)
 one_sent first now next all left entry refused count flag completes done told is last others sends =
@@ -57,7 +59,8 @@ one_sent first now next all left entry refused count flag completes done told is
     by_flag false = refl
 
 -- none is left
-pub all_sent : (first now : MachineValue) (all : List Entry) (refused : ℕ) → Completes first all now [] refused
+pub all_sent : (first now : MachineValue) (all : List Entry) (refused : ℕ)
+    → Completes first all now [] refused
     → Sends first all now refused
 all_sent first now all refused completes =
     let none : refused + 0 ≡ refused = omega arith in

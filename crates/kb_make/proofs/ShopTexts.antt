@@ -21,7 +21,8 @@ are_texts catalog overdue both = both
 -- a machine that took both is what they lead to
 pub handed_in : (today : ℕ) (catalog : CatalogText) (overdue : OverdueText) (first next last : MachineValue)
     → first ≡ no_machine → next ≡ entry_after first (today, catalog_command catalog)
-    → last ≡ entry_after next (today, overdue_command overdue) → last ≡ replay (first_commands today catalog overdue)
+    → last ≡ entry_after next (today, overdue_command overdue)
+    → last ≡ replay (first_commands today catalog overdue)
 unfolding replay
 handed_in today catalog overdue first next last none one other =
     other ∙ ap (λ (machine : MachineValue). entry_after machine (today, overdue_command overdue))

@@ -1,5 +1,6 @@
 -- What the commands of a seed make of a lane with the shop's texts, whose gateway takes each payment.
-use Rattle.std.specs.Prelude.{ℕ, zero, suc, ◌+◌, ◌≡◌, Bool, List, [], ◌∷◌, ◌++◌, Option, None, Some, is_some, Ok, if◌then◌else◌}
+use Rattle.std.specs.Prelude.{ℕ, zero, suc, ◌+◌, ◌≡◌, Bool, List, [], ◌∷◌, ◌++◌, Option, None, Some, is_some}
+use Rattle.std.specs.Prelude.{Ok, if◌then◌else◌}
 use Rattle.kb_days.specs.Dates.{january}
 use Rattle.kb_shop.specs.Shops.{shop_catalog, shop_overdue}
 use Rattle.kb_catalog_text.specs.Texts.{CatalogText, OverdueText}
@@ -48,7 +49,8 @@ done_times (suc count) today busy = done_times count today (first_done today bus
 
 -- Things are done until nothing is left to do.
 abbrev pub IsDoneWith : ℕ → Busy → MachineValue → Type 0
-IsDoneWith today busy last = (count : ℕ) × (done_times count today busy ≡ record { machine = last; works = [] })
+IsDoneWith today busy last = (count : ℕ) × (done_times count today busy
+    ≡ record { machine = last; works = [] })
 
 -- what a command leaves that is sent on a day: one that isn't new leaves nothing to do
 abbrev pub sent : MachineValue → Entry → Busy
@@ -74,5 +76,6 @@ pub record Makes (seed accounts months : ℕ) (last : MachineValue) (refused : �
   pub catalog : CatalogText
   pub overdue : OverdueText
   pub texts : AreTextsOf (Some shop_catalog) (Some shop_overdue) catalog overdue
-  pub sends : Sends (replay (first_commands (january 1) catalog overdue)) (commands_of seed accounts months) last
+  pub sends : Sends (replay (first_commands (january 1) catalog overdue))
+      (commands_of seed accounts months) last
       refused

@@ -1,5 +1,6 @@
 -- The open keys, told from entries that are lent.
-use Rattle.std.proofs.Common.{◌≡◌, refl, Bool, true, false, cond, ℕ, List, [], ◌∷◌, ◌++◌, map, All, AllPairs, T, sym}
+use Rattle.std.proofs.Common.{◌≡◌, refl, Bool, true, false, cond, ℕ, List, [], ◌∷◌, ◌++◌, map, All, AllPairs}
+use Rattle.std.proofs.Common.{T, sym}
 use Rattle.std.proofs.Common.{subst, ◌∙◌, ap, inl, inr}
 use Rattle.std.proofs.lemmas.Bool.{cases_Bool}
 use Rattle.std.proofs.lemmas.List.{append_assoc}
@@ -30,7 +31,8 @@ map-filter-map f g p (x ∷ xs) =
 pub open_keys_apart : (payments : PaymentsValue) → T (is_sorted by_words payments)
     → AllPairs (λ (one other : List ℕ). one ≡ other → ⊥) (open_keys payments)
 open_keys_apart payments sorted =
-    keys_apart (filter (λ (entry : List ℕ × Attempt). is_open entry.1.status) payments) (AllPairs-filter (λ (one other : List ℕ × Attempt). one.0 ≡ other.0 → ⊥)
+    keys_apart (filter (λ (entry : List ℕ × Attempt). is_open entry.1.status) payments)
+    (AllPairs-filter (λ (one other : List ℕ × Attempt). one.0 ≡ other.0 → ⊥)
     (λ (entry : List ℕ × Attempt). is_open entry.1.status) payments (entries_apart payments sorted))
 
 -- each has an attempt that is open
@@ -57,7 +59,8 @@ open_keys_found payments sorted = among [] payments refl
     among front (entry ∷ back) is =
         let later = among (front ++ entry ∷ []) back (is ∙ sym (append_assoc front (entry ∷ []) back)) in
         elim (cases_Bool (test entry)) [
-          | inl opened ↦ rw opened (All-cons (IsOpenKey payments) entry.0 (map (λ each. each.0) (filter test back))
+          | inl opened ↦ rw opened (All-cons (IsOpenKey payments) entry.0
+              (map (λ each. each.0) (filter test back))
               (here front entry back is opened) later)
           | inr closed ↦ rw closed later
         ]

@@ -27,7 +27,8 @@ paid_by-none : (attempt : Attempt) (invoice : ℕ) → is_success attempt.status
     → paid_by invoice attempt ≡ pos 0
 paid_by-none attempt invoice is =
     paid_by-at attempt invoice false is
-    ∙ ap (λ b. if b then signed attempt.kind attempt.amount else pos 0) (and_right (attempt.invoice == invoice) false refl)
+    ∙ ap (λ b. if b then signed attempt.kind attempt.amount else pos 0)
+    (and_right (attempt.invoice == invoice) false refl)
 
 -- and then that on its invoice alone
 here_only : (same success : Bool) (amount : ℤ)

@@ -1,5 +1,6 @@
 -- Payments as a map from key to attempt, and what they add up to.
-use Rattle.std.specs.Prelude.{ℕ, Bool, true, false, List, map, ℤ, pos, ◌+ℤ◌, ◌≡◌, ◌==◌, nat_le, ◌&&◌, Option, Some}
+use Rattle.std.specs.Prelude.{ℕ, Bool, true, false, List, map, ℤ, pos, ◌+ℤ◌, ◌≡◌, ◌==◌, nat_le, ◌&&◌, Option}
+use Rattle.std.specs.Prelude.{Some}
 use Rattle.std.specs.Prelude.{if◌then◌else◌}
 use Rattle.std.specs.FinMap.{find, put}
 use Rattle.std.specs.List.{filter, list_any}

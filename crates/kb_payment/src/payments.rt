@@ -1,8 +1,10 @@
 //! The payments of an account.
-ghost use Rattle.std.specs.Prelude.{◌≡◌, ◌≤ℤ◌, ℕ, pos, neg_ℤ, int_lt, None, Err, IfOk, IfErr, IfSome, All, List};
+ghost use Rattle.std.specs.Prelude.{◌≡◌, ◌≤ℤ◌, ℕ, pos, neg_ℤ, int_lt, None, Err, IfOk, IfErr, IfSome, All};
+ghost use Rattle.std.specs.Prelude.{List};
 ghost use Rattle.std.specs.List.{AllPairs};
 ghost use Rattle.std.specs.Prelude.{option_copied};
-ghost use Rattle.kb_payment.specs.PaymentSums.{attempt_of, open_purchases, has_automatic_since, open_keys, IsOpenKey};
+ghost use Rattle.kb_payment.specs.PaymentSums.{attempt_of, open_purchases, has_automatic_since, open_keys};
+ghost use Rattle.kb_payment.specs.PaymentSums.{IsOpenKey};
 ghost use Rattle.kb_payment.specs.PaymentSums.{paid_on, StayFinal, Moves};
 ghost use Rattle.kb_payment.specs.PaymentEdits.{no_payments, purchased, purchase_fault, refunded};
 ghost use Rattle.kb_payment.specs.PaymentEdits.{charged_back, give_back_fault, settled, settle_fault};
@@ -115,11 +117,14 @@ impl Payments {
         auto: bool,
     ) -> Result<Payments, PayFault>
         requires due { pos 0 ≤ℤ balance }
-        ensures purchased { IfOk result (λ payments. payments ≡ purchased self.now key invoice balance amount day auto) }
-        ensures refused { IfSome (purchase_fault self.now key invoice balance amount) (λ fault. result ≡ Err fault) }
+        ensures purchased { IfOk result (λ payments. payments
+            ≡ purchased self.now key invoice balance amount day auto) }
+        ensures refused { IfSome (purchase_fault self.now key invoice balance amount)
+            (λ fault. result ≡ Err fault) }
         ensures memory { purchase_fault self.now key invoice balance amount ≡ None
             → IfErr result (λ fault. fault ≡ PayFault.NoMemory) }
-        ensures unmoved { IfOk result (λ payments. (asked : ℕ) → paid_on payments asked ≡ paid_on self.now asked) }
+        ensures unmoved { IfOk result (λ payments. (asked : ℕ)
+            → paid_on payments asked ≡ paid_on self.now asked) }
         ensures lasting { IfOk result (λ payments. StayFinal self.now payments) }
     {
         if let Some(fault) = self.purchase_fault(key, invoice, balance, amount) {
@@ -145,7 +150,8 @@ impl Payments {
         ensures refused { IfSome (give_back_fault self.now key of amount) (λ fault. result ≡ Err fault) }
         ensures memory { give_back_fault self.now key of amount ≡ None
             → IfErr result (λ fault. fault ≡ PayFault.NoMemory) }
-        ensures unmoved { IfOk result (λ payments. (asked : ℕ) → paid_on payments asked ≡ paid_on self.now asked) }
+        ensures unmoved { IfOk result (λ payments. (asked : ℕ)
+            → paid_on payments asked ≡ paid_on self.now asked) }
         ensures lasting { IfOk result (λ payments. StayFinal self.now payments) }
     {
         let purchase = self.purchase_to_give_back(key, of, amount)?;
@@ -203,7 +209,8 @@ impl Payments {
     ) -> Result<(Payments, i128), PayFault>
         ensures settled { IfOk result (λ settled_by. settled_by.0 ≡ settled self.now key status) }
         ensures refused { IfSome (settle_fault self.now key) (λ fault. result ≡ Err fault) }
-        ensures memory { settle_fault self.now key ≡ None → IfErr result (λ fault. fault ≡ PayFault.NoMemory) }
+        ensures memory { settle_fault self.now key ≡ None
+            → IfErr result (λ fault. fault ≡ PayFault.NoMemory) }
         ensures moved { IfOk result (λ settled_by. IfSome (attempt_of self.now key)
             (λ attempt. Moves self.now settled_by.0 attempt.invoice settled_by.1)) }
         ensures lasting { IfOk result (λ settled_by. StayFinal self.now settled_by.0) }

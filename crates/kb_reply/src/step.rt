@@ -11,7 +11,8 @@ pub enum Step {
     DiskFault,
     /// An earlier write failed. So many commands are acknowledged.
     Stopped(u64),
-    /// The journal has no room for it. It has `commands` records and `size` bytes, up to and with its last gate.
+    /// The journal has no room for it. It has `commands` records and `size` bytes, up to and with its last
+    /// gate.
     Full { commands: u64, size: u64 },
     /// Memory ran out.
     NoMemory,

@@ -1,6 +1,8 @@
 -- Accounts that are added one after another.
-use Rattle.std.proofs.Common.{◌≡◌, ℕ, ℤ, suc, ◌+◌, ◌+ℤ◌, ◌<◌, ◌≤◌, List, [], ◌∷◌, ◌++◌, length, get_or, slice_get, drop}
-use Rattle.std.proofs.Common.{map, Option, Some, None, option_map, refl, sym, ap, subst, ◌∙◌, arith, length-append}
+use Rattle.std.proofs.Common.{◌≡◌, ℕ, ℤ, suc, ◌+◌, ◌+ℤ◌, ◌<◌, ◌≤◌, List, [], ◌∷◌, ◌++◌, length, get_or}
+use Rattle.std.proofs.Common.{slice_get, drop}
+use Rattle.std.proofs.Common.{map, Option, Some, None, option_map, refl, sym, ap, subst, ◌∙◌, arith}
+use Rattle.std.proofs.Common.{length-append}
 use Rattle.std.proofs.Math.Seq.{drop-cons}
 use Rattle.std.proofs.lemmas.List.{append_assoc, append-nil, drop_all}
 use Rattle.std.proofs.lemmas.List.Concat.{flat_map-cons}
@@ -19,7 +21,8 @@ use Rattle.kb_reports.specs.Private.Adding.{no_totals, plus, plus_all, sums_in_l
 use Rattle.kb_reports.proofs.FoundBooks.{AreApart, name_of, found_at}
 
 -- fields that are each the sum of two are those of totals with one account more
-pub plus_of : (totals : Totals) (sums : Sums) (accounts commands invoices : ℕ) (charged paid credit unpaid : ℤ)
+pub plus_of : (totals : Totals) (sums : Sums) (accounts commands invoices : ℕ)
+    (charged paid credit unpaid : ℤ)
     → accounts ≡ totals.accounts + 1 → commands ≡ totals.commands + sums.commands
     → invoices ≡ totals.invoices + sums.invoices → charged ≡ totals.charged +ℤ sums.charged
     → paid ≡ totals.paid +ℤ sums.paid → credit ≡ totals.credit +ℤ sums.credit
@@ -99,7 +102,8 @@ plus_all-append totals (one ∷ later) more = plus_all-append (plus totals one) 
 -- what accounts add up to, with one more
 total-push : (some : List Sums) (one : Sums) → plus (total_of some) one ≡ total_of (some ++ one ∷ [])
 total-push some one =
-    let accounts : length some + 1 ≡ length (some ++ one ∷ []) = omega (arith, length-append some (one ∷ [])) in
+    let accounts : length some + 1 ≡ length (some ++ one ∷ []) =
+    omega (arith, length-append some (one ∷ [])) in
     let commands = sum_by_push (λ (each : Sums). each.commands) some one in
     let invoices = sum_by_push (λ (each : Sums). each.invoices) some one in
     let charged = sum_of-push (λ (each : Sums). each.charged) some one in
@@ -137,7 +141,8 @@ module _ {L : Type 0} (machine : L → MachineValue) (lanes : List L) (place : �
       ∙ ap (plus_all now) (sym rest) ∙ gives
 
   -- none is left
-  pub lanes_added : length lanes ≤ place → plus_all now (left place) ≡ plus_all no_totals (sums_in (map machine lanes))
+  pub lanes_added : length lanes ≤ place → plus_all now (left place)
+      ≡ plus_all no_totals (sums_in (map machine lanes))
       → now ≡ totals_of (map machine lanes)
   lanes_added over gives =
       ap (λ (those : List L). plus_all now (sums_in (map machine those))) (sym (drop_all place lanes over))

@@ -34,7 +34,8 @@ other-key key other apart =
     ] refl
 
 -- the book at a place is found by its name
-pub found_at : (books : Keyed BookValue) (place : ℕ) (entry : List ℕ × BookValue) → AreApart (map name_of books)
+pub found_at : (books : Keyed BookValue) (place : ℕ) (entry : List ℕ × BookValue)
+    → AreApart (map name_of books)
     → slice_get books place ≡ Some entry → find by_words entry.0 books ≡ Some entry.1
 found_at [] place entry apart is = absurd (cc)
 found_at (one ∷ later) zero entry apart is =

@@ -11,4 +11,5 @@ pub names_listed : (lane : ℕ) (machine : MachineValue) (names : List (List ℕ
     → names ≡ map (λ (entry : List ℕ × BookValue). entry.0) machine.books
     → map (listed_in lane) names ≡ accounts_in lane machine
 names_listed lane machine names are =
-    ap (map (listed_in lane)) are ∙ map-map (listed_in lane) (λ (entry : List ℕ × BookValue). entry.0) machine.books
+    ap (map (listed_in lane)) are ∙ map-map (listed_in lane)
+    (λ (entry : List ℕ × BookValue). entry.0) machine.books

@@ -31,7 +31,8 @@ module _ {X : Type 0} (say : X → List ℕ) (all : List X) (place : ℕ) (one :
   part_said part rest are =
       let later = flat_map say (drop (place + 1) all) in
       append_assoc done part (rest ++ later)
-      ∙ ap (λ more. done ++ more) (sym (append_assoc part rest later) ∙ ap (λ more. more ++ later) are ∙ sym left)
+      ∙ ap (λ more. done ++ more) (sym (append_assoc part rest later) ∙ ap (λ more. more ++ later) are
+      ∙ sym left)
       ∙ gives
 
 -- a first part of the lines of all that are listed is one of a report

@@ -1,5 +1,6 @@
 -- The accounts of all lanes, listed by name, and what a report says of them.
-use Rattle.std.specs.Prelude.{ℕ, ◌+◌, ◌≡◌, ◌⊎◌, List, [], ◌∷◌, ◌++◌, map, slice_get, codes, Option, Some, None, refl}
+use Rattle.std.specs.Prelude.{ℕ, ◌+◌, ◌≡◌, ◌⊎◌, List, [], ◌∷◌, ◌++◌, map, slice_get, codes, Option, Some}
+use Rattle.std.specs.Prelude.{None, refl}
 use Rattle.std.specs.declared.cmp.Ordering.{Ordering}
 use Rattle.std.specs.declared.cmp.Ordering.TheVariants.{Less}
 use Rattle.std.specs.Ordering.{nat_cmp, ordering_then}
@@ -27,7 +28,8 @@ accounts_from lane (machine ∷ later) = accounts_in lane machine ++ accounts_fr
 abbrev pub by_name : Listed → Listed → Ordering
 by_name one other = ordering_then (by_words one.account other.account) (nat_cmp one.lane other.lane)
 
-a10_before_a2 : by_name (record { account = codes "a10"; lane = 1 }) (record { account = codes "a2"; lane = 0 })
+a10_before_a2 : by_name (record { account = codes "a10"; lane = 1 })
+    (record { account = codes "a2"; lane = 0 })
     ≡ Less
 a10_before_a2 = refl
 

@@ -1,5 +1,6 @@
 -- The lines of reports: what each says of an account.
-use Rattle.std.specs.Prelude.{ℕ, ◌≡◌, pos, List, [], ◌∷◌, ◌++◌, codes, decimal, Option, Some, None, unwrap_or, refl}
+use Rattle.std.specs.Prelude.{ℕ, ◌≡◌, pos, List, [], ◌∷◌, ◌++◌, codes, decimal, Option, Some, None, unwrap_or}
+use Rattle.std.specs.Prelude.{refl}
 use Rattle.std.specs.List.{flat_map}
 use Rattle.std.specs.Fmt.{signed_decimal, digits}
 use Rattle.kb_base.specs.Lines.{line_feed}
@@ -97,7 +98,8 @@ no_arrears : arrears_line (codes "a1") paid_too_much paid_too_much.earliest ≡ 
 no_arrears = refl
 
 some_arrears : arrears_line (codes "a2") owing owing.earliest
-    ≡ codes "a2" ++ 9 ∷ codes "WARNING" ++ 9 ∷ codes "1" ++ 9 ∷ codes "1000" ++ 9 ∷ codes "2024-03-01" ++ 10 ∷ []
+    ≡ codes "a2" ++ 9 ∷ codes "WARNING" ++ 9 ∷ codes "1" ++ 9 ∷ codes "1000" ++ 9
+    ∷ codes "2024-03-01" ++ 10 ∷ []
 unfolding digits date_text civil_text day_of_month month_of month_after month_start month_length
 some_arrears = refl
 

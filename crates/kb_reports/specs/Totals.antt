@@ -11,7 +11,8 @@ use Rattle.kb_reports.specs.declared.totals.Totals.{Totals}
 -- what each account adds up to, lane after lane
 abbrev pub sums_in : List MachineValue → List Sums
 sums_in lanes =
-    flat_map (λ (machine : MachineValue). map (λ (entry : List ℕ × BookValue). sums_of entry.1) machine.books) lanes
+    flat_map (λ (machine : MachineValue). map (λ (entry : List ℕ × BookValue). sums_of entry.1) machine.books)
+    lanes
 
 -- and all of them together
 abbrev pub total_of : List Sums → Totals

@@ -50,7 +50,8 @@ told_from-nothing judge told (one ∷ later) is =
     let both = told_first-nothing told (judge one) rest.0 in (both.0, (both.1, rest.1))
 
 -- where nothing is told of a request, nothing is wrong with any of its members
-pub members_right : (dated : Bool) (kind : Kind) (object : Members) → first_wrong dated kind object ≡ wrong.Nothing
+pub members_right : (dated : Bool) (kind : Kind) (object : Members)
+    → first_wrong dated kind object ≡ wrong.Nothing
     → AreRight (wrong_needed object) (members_of kind).needed
     × AreRight (wrong_optional object) (members_of kind).optional
 unfolding first_wrong

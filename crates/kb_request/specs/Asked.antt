@@ -128,7 +128,11 @@ catalog_asked object = catalog_of (name_at object member.Key) (text_at object me
 
 abbrev pub overdue_of : List ℕ → List ℕ → Result (List OverdueState) TextFault → Result What RequestFault
 overdue_of key text (Ok states) =
-    command_asked (commands.OverdueRules (record { key = key; text = record { text = text; states = states } }))
+    command_asked (commands.OverdueRules (record {
+      key = key;
+      text =
+          record { text = text; states = states };
+    }))
 overdue_of key text (Err fault) = Err (text_fault fault)
 
 abbrev pub overdue_asked : Members → Result What RequestFault

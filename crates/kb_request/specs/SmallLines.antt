@@ -38,13 +38,16 @@ line text = map (λ byte. if byte == 39 then 34 else byte) text
 unfoldable on_lines : ⊤
 unfolding serde_json_on_literals is_utf8 chars ask json_of ask_of_value ask_of_object kind_in kind_named
     ask_of_kind has_unknown first_wrong wrong_needed wrong_optional wrong_today wrong_in has_type
-    wrong_of_type name_in key_in text_where currency_in period_named period_in scope_named scope_in day_in whole_in
-    amount_in invoice_in bcd_in asked read_day named_day date_text civil_text month_of day_of_month month_after
+    wrong_of_type name_in key_in text_where currency_in period_named period_in scope_named scope_in
+    day_in whole_in
+    amount_in invoice_in bcd_in asked read_day named_day date_text civil_text month_of
+    day_of_month month_after
     month_start month_length
 on_lines = tt
 
 unfoldable on_texts : ⊤
-unfolding on_lines toml_on_literals text_read document_of states_in state_in version_in keys_read first_failing
+unfolding on_lines toml_on_literals text_read document_of states_in state_in version_in
+    keys_read first_failing
     required optional read_or read_array read_table read_items fault_of is_broken_at
 on_texts = tt
 

@@ -17,7 +17,8 @@ use serde_json::Value;
 use std::alloc::Global;
 
 /// Reads a line: as the request that it says, or its first fault. A line that may not be `dated` asks for a
-/// command alone, and names no day. A command that it asks for is one of a caller. `NoMemory` may come at any point.
+/// command alone, and names no day. A command that it asks for is one of a caller. `NoMemory` may come at
+/// any point.
 pub fn read_request(alloc: Global, line: &[u8], dated: bool) -> Result<Request, RequestFault>
     ensures asked { IsAsked result (ask dated line.now) }
     ensures callers { IfOk result (λ request. IsCallers request.what) }

@@ -3,8 +3,8 @@
 use crate::play::{Row, play_all};
 use kb_samples::{OVERDUE, SampleFault};
 
-/// After each command what is due by itself is asked for until nothing is; a payment is settled as the gateway
-/// tells.
+/// After each command what is due by itself is asked for until nothing is; a payment is settled as the
+/// gateway tells.
 static ROWS: [Row; 1] = [(
     "a month",
     OVERDUE,

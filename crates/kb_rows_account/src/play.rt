@@ -15,8 +15,8 @@ use std::process::Abort;
 /// Overdue rules without a state.
 pub(crate) const NO_STATES: &str = "state = []";
 
-/// A line of a row, and what is told of it: number, invoice, total, credit and unpaid, with `-` for no invoice;
-/// the same behind `kept`; or the refusal. The line `due` is what is due by itself.
+/// A line of a row, and what is told of it: number, invoice, total, credit and unpaid, with `-` for no
+/// invoice; the same behind `kept`; or the refusal. The line `due` is what is due by itself.
 pub(crate) type Line = (&'static str, &'static str);
 
 /// A name, the overdue rules, the line that opens the account, and later ones.

@@ -8,8 +8,9 @@ use std::test::Fail;
 /// A text that says a key which no overdue text has.
 const NO_STATES: &str = "states = []";
 
-/// The number of the vault's call that fails, that of the call of lane 1's disk, the catalog text, the overdue text,
-/// what three lanes come to, how many faults are counted, and what it comes to when it is tried again.
+/// The number of the vault's call that fails, that of the call of lane 1's disk, the catalog text, the
+/// overdue text, what three lanes come to, how many faults are counted, and what it comes to when it is
+/// tried again.
 type Row = (
     u64,
     u64,

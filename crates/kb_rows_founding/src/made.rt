@@ -16,8 +16,8 @@ fn a_lane_has_both_texts(rt: HostRuntime) -> Result<(), Fail> {
     Ok(())
 }
 
-/// Of a lane of three that were made: the number of lanes that its header tells, and how many commands, versions of the
-/// catalog and overdue states it has.
+/// Of a lane of three that were made: the number of lanes that its header tells, and how many commands,
+/// versions of the catalog and overdue states it has.
 fn loaded(alloc: Global, lane: u16) -> Result<(u16, u64, u32, usize), Fail> {
     let mut vault = shop(alloc, (SHOP, OVERDUE), &[], 0, 0)?;
     let _made = founded(alloc, &mut vault)?;

@@ -8,8 +8,8 @@ use kb_vault::{LaneFile, MemoryVault, TextFile, Vault};
 use std::alloc::{AllocError, Global};
 use std::test::Fail;
 
-/// A vault with these two texts, of which the calls of the number `failing` fail; and of the disk of lane 1 of the
-/// folder shop, which has these bytes, those of the number `of_disk`.
+/// A vault with these two texts, of which the calls of the number `failing` fail; and of the disk of lane 1
+/// of the folder shop, which has these bytes, those of the number `of_disk`.
 pub(crate) fn shop(
     alloc: Global,
     texts: (&str, &str),

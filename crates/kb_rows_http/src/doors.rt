@@ -4,8 +4,8 @@ use kb_links::{Door, Link, ListDoor, PairLink};
 use std::alloc::{AllocError, Global};
 use std::test::Fail;
 
-/// The number of the call that fails, whether two calls for a link behind the first one give one, the links that
-/// were handed out and given back, and the faults.
+/// The number of the call that fails, whether two calls for a link behind the first one give one, the links
+/// that were handed out and given back, and the faults.
 const ROWS: [(u64, bool, bool, usize, usize, u64); 4] = [
     (0, true, true, 2, 2, 0),
     (1, true, true, 2, 2, 1),

@@ -101,7 +101,8 @@ fn faults_of(alloc: Global, text: &str) -> Result<(u32, u32), SampleFault> {
     Ok((fault(alloc, text, true)?, fault(alloc, text, false)?))
 }
 
-/// A line up to the value of a member of a kind: of a charge, a payment, an opening, a cancellation or a bill.
+/// A line up to the value of a member of a kind: of a charge, a payment, an opening, a cancellation or a
+/// bill.
 fn line_up_to(kind: u32) -> &'static str {
     match kind {
         0 => "{'do':'charge','account':'a1','key':'k1','amount':",

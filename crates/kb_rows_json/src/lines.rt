@@ -19,8 +19,8 @@ pub(crate) fn line(alloc: Global, text: &str) -> Result<Vec<u8>, SampleFault> {
     Ok(bytes)
 }
 
-/// The number of the fault of some bytes: 1 to 6 as JSON, 11 for a name, 12 for a day, 20 and its own for a text;
-/// 0 if they are a request.
+/// The number of the fault of some bytes: 1 to 6 as JSON, 11 for a name, 12 for a day, 20 and its own for a
+/// text; 0 if they are a request.
 pub(crate) fn fault_of(alloc: Global, bytes: &[u8], dated: bool) -> Result<u32, SampleFault> {
     let fault = read_request(alloc, bytes, dated).err();
     number_of(&fault)

@@ -1,4 +1,5 @@
-//! Each kind of request without each of its members, with each of another type, and with one that isn't its own.
+//! Each kind of request without each of its members, with each of another type, and with one that isn't its
+//! own.
 
 use crate::compare::same;
 use crate::lines::fault;

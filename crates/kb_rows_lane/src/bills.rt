@@ -24,13 +24,13 @@ const ALL: Tally = Tally {
     memory: 0,
 };
 
-/// The call of the disk that fails; the bills that are accepted, and how often the disk is told as failed; how many
-/// commands are loaded from it then, and are there once the accounts are billed again; and how often the gateway was
-/// asked.
+/// The call of the disk that fails; the bills that are accepted, and how often the disk is told as failed;
+/// how many commands are loaded from it then, and are there once the accounts are billed again; and how
+/// often the gateway was asked.
 type Stop = (u64, u64, u64, u64, u64, usize);
 
-/// The lane is made by three calls, and each command that is written down makes four. Behind the accounts' three the
-/// first one's bill comes, its payment, what the gateway said, and the other's bill.
+/// The lane is made by three calls, and each command that is written down makes four. Behind the accounts'
+/// three the first one's bill comes, its payment, what the gateway said, and the other's bill.
 static STOPS: [Stop; 16] = [
     (16, 0, 4, 3, 7, 1),
     (17, 0, 4, 3, 7, 1),

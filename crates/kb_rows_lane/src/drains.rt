@@ -18,8 +18,8 @@ pub(crate) const PAID: &str = "\
 #14 a1 k3 p1 #0 #0 #0 #1 #0 > ok 3
 #14 a1 k4 p1 #0 #0 #0 #1 #0 > refused 0";
 
-/// What the gateway answers, the numbers of its calls that fail, how many entries are handled, how many commands
-/// there are then, and the reply to another payment.
+/// What the gateway answers, the numbers of its calls that fail, how many entries are handled, how many
+/// commands there are then, and the reply to another payment.
 type Drain = (&'static [Told], &'static [u64], u32, u64, &'static str);
 
 static DRAINS: [Drain; 5] = [

@@ -33,8 +33,8 @@ pub(crate) fn with_gateway(
     made(alloc, disk, gateway)
 }
 
-/// An empty lane whose gateway fails at its first call and has seen the payment then, on a disk whose call of this
-/// number fails.
+/// An empty lane whose gateway fails at its first call and has seen the payment then, on a disk whose call
+/// of this number fails.
 pub(crate) fn on_disk(alloc: Global, failing: u64) -> Result<TestLane, Fail> {
     let failing = [failing].to_vec(alloc)?;
     let disk = MemoryDisk::new(alloc, Vec::new(alloc), failing)?;

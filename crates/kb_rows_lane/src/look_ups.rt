@@ -13,8 +13,9 @@ use std::alloc::Global;
 use std::process::Abort;
 use std::test::Fail;
 
-/// What the gateway has seen of a payment whose order failed, at one look-up after another; the numbers of its
-/// calls that fail; how many commands there are after each look-up; and the reply to another payment then.
+/// What the gateway has seen of a payment whose order failed, at one look-up after another; the numbers of
+/// its calls that fail; how many commands there are after each look-up; and the reply to another payment
+/// then.
 type LookUp = (
     &'static [Seen],
     &'static [u64],
@@ -121,8 +122,8 @@ fn hold_calls(rt: &impl Abort, lane: TestLane, row: &LookUp) -> Result<(), Fail>
     Ok(())
 }
 
-/// The call of the disk that fails as the payment is settled, and how many commands are loaded from it then. The
-/// lane is made by three calls, and each command that is written down makes four.
+/// The call of the disk that fails as the payment is settled, and how many commands are loaded from it
+/// then. The lane is made by three calls, and each command that is written down makes four.
 static FAULTS: [(u64, u64); 4] = [(16, 3), (17, 3), (18, 3), (19, 4)];
 
 #[test]

@@ -1,7 +1,7 @@
 //! Commands on lanes, and their replies.
 //!
-//! A line has the bytes of a command and its reply behind ` > `: `#12` is a byte, `=USD` three letters, and any
-//! other word a name.
+//! A line has the bytes of a command and its reply behind ` > `: `#12` is a byte, `=USD` three letters, and
+//! any other word a name.
 
 use crate::compare::same;
 use crate::lanes::{TestLane, again, count_of, empty, journal, performed, put, stuck_at, told};
@@ -32,7 +32,8 @@ const AGAIN: &str = "\
 #3 a1 k9 =USD #1 #0 > refused 0
 #11 a1 k4 #0 > ok 4";
 
-/// Records, and the place of the one that is stuck: no command, one without its account, one that came before.
+/// Records, and the place of the one that is stuck: no command, one without its account, one that came
+/// before.
 const STUCK: [(&str, u64); 3] = [
     ("#7", 16),
     ("#0 #0 #77 #71 #11 a1 k3 #0", 16),

@@ -20,9 +20,10 @@ const OF_THREE: &str = "KBJRNL01\0\x03\0\x01\0\0\0\0\0";
 
 const OF_NONE: &str = "KBJRNL01\0\0\0\0\0\0\0\0\0";
 
-/// The bytes of lanes 0 and 1; the numbers of the calls of the vault, of the disk of lane 0, of that of lane 1 and of
-/// the market that fail; the number of lanes (`DISK`, `NO_MEMORY` or `MARKET` for a fault, 100 and the place for a
-/// fault of lane 0, 200 and the place for one of lane 1); and how many faults the vault and the market count.
+/// The bytes of lanes 0 and 1; the numbers of the calls of the vault, of the disk of lane 0, of that of
+/// lane 1 and of the market that fail; the number of lanes (`DISK`, `NO_MEMORY` or `MARKET` for a fault,
+/// 100 and the place for a fault of lane 0, 200 and the place for one of lane 1); and how many faults the
+/// vault and the market count.
 const ROWS: [(&str, &str, [u64; 4], i64, (u64, u64)); 18] = [
     (FIRST, SECOND, [0, 0, 0, 0], 2, (0, 0)),
     (ALONE, "", [0, 0, 0, 0], 1, (0, 0)),
@@ -97,7 +98,8 @@ fn folder(
     second: &str,
     failing: [u64; 4],
 ) -> Result<MemoryVault, AllocError>
-    ensures inside { IfOk result (λ vault. (lane : ℕ) → memory.is_out vault.lanes (codes "shop") lane ≡ false) }
+    ensures inside { IfOk result (λ vault. (lane : ℕ) → memory.is_out vault.lanes (codes "shop")
+        lane ≡ false) }
 {
     let first = file(alloc, 0, first, failing[1])?;
     let second = file(alloc, 1, second, failing[2])?;

@@ -1,4 +1,5 @@
-//! Worked rows of the lowest crates: faults and lists, shared lists and maps, days and names, money, and bytes in memory.
+//! Worked rows of the lowest crates: faults and lists, shared lists and maps, days and names, money, and
+//! bytes in memory.
 //!
 //! Tests of public calls stand here and not beside the code, so that no crate is proved again with them.
 #![tactic(auto)]

@@ -13,7 +13,8 @@ digits_utf8 : (count number : ℕ) → IsUtf8 (digits count number)
 digits_utf8 count number =
     let all = digits count number in
     IsUtf8-from_ascii all (IsAscii-from_all all (λ k d inside.
-    let digit : IsAsciiDigit (get_or all k d) = All-get_or IsAsciiDigit all k d inside (All-digits count number) in
+    let digit : IsAsciiDigit (get_or all k d) = All-get_or IsAsciiDigit all k d inside
+    (All-digits count number) in
     omega (arith, digit.1)))
 
 dash_utf8 : IsUtf8 (codes "-")

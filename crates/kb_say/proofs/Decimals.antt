@@ -49,7 +49,8 @@ first_digit n some small = (decimal_by_steps_wide
 
 decimal_whole : (n : ℕ) → n < 10 ^ 64
     → (after_whole (decimal n) ≡ Some []) × ((head (decimal n) == 45) ≡ false)
-decimal_whole zero small = let e = decimal_digit 0 (omega arith) in (ap after_whole e, ap (λ l. head l == 45) e)
+decimal_whole zero small = let e = decimal_digit 0 (omega arith) in
+    (ap after_whole e, ap (λ l. head l == 45) e)
 decimal_whole (suc n) small =
     digits_whole (decimal (suc n)) (first_digit (suc n) (omega arith) small)
     (digits_pass _ (λ i inside. digit_at _ i (decimal_is_IsNumeral_wide (suc n) small).0.1 inside))

@@ -65,7 +65,8 @@ field_flat (field.Day day) = tt
 field_flat (field.Number amount) = signed_decimal-plain amount
 field_flat field.Nothing = tt
 
-pub fields_flat : (rows : List (Bor (List ℕ) × Field)) → AreFlat (map (λ row. (row.0.now, field_json row.1)) rows)
+pub fields_flat : (rows : List (Bor (List ℕ) × Field)) → AreFlat
+    (map (λ row. (row.0.now, field_json row.1)) rows)
 fields_flat [] = tt
 fields_flat (row ∷ later) = (field_flat row.1, fields_flat later)
 
@@ -102,7 +103,13 @@ item_rows_flat view = (
       word_flat view.subscription,
       (
         date_flat (from_of view.line),
-        (date_flat (to_of view.line), (signed_decimal-plain (amount_of view.line), (count_flat (repaired_by view.line), tt))),
+        (
+          date_flat (to_of view.line),
+          (
+            signed_decimal-plain (amount_of view.line),
+            (count_flat (repaired_by view.line), tt),
+          ),
+        ),
       ),
     ),
   ),

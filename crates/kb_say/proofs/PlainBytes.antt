@@ -31,7 +31,8 @@ is_plain-append [] second here later = later
 is_plain-append (byte ∷ bytes) second here later =
     by_test (byte == 10) refl (λ rest. is_plain-append bytes second rest later)
   where
-    by_test : (test : Bool) → (byte == 10) ≡ test → (is_plain bytes ≡ true → is_plain (bytes ++ second) ≡ true)
+    by_test : (test : Bool) → (byte == 10) ≡ test → (is_plain bytes ≡ true
+        → is_plain (bytes ++ second) ≡ true)
         → is_plain (byte ∷ (bytes ++ second)) ≡ true
     by_test true is more = let other = rw is at here in absurd (cc)
     by_test false is more = let rest = rw is at here in rw is (more rest)

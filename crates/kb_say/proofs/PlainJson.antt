@@ -57,7 +57,8 @@ print_from-plain : (after : Bool) (tokens : List Token) → ArePlain tokens
 unfolding print_from
 print_from-plain after [] plain = refl
 print_from-plain after (one ∷ later) plain =
-    is_plain-append (separator after one) (token_text one ++ print_from (ends one) later) (separator-plain after one)
+    is_plain-append (separator after one) (token_text one ++ print_from (ends one) later)
+    (separator-plain after one)
     (is_plain-append (token_text one) (print_from (ends one) later) (token_text-plain one plain.0)
     (print_from-plain (ends one) later plain.1))
 

@@ -28,7 +28,8 @@ read-tokens one bytes same shallow =
     ap (λ found. option_and_then of_json (option_and_then (λ p. json.if_last p.0 p.1) found))
     (ap (json.value max_depth) (same ∙ sym (append-nil _)) ∙ value-json_tokens one max_depth [] shallow)
 
-text_of : (one : Json) (written : List Token) (bytes : List ℕ) → written ≡ json_tokens one → bytes ≡ print written
+text_of : (one : Json) (written : List Token) (bytes : List ℕ) → written ≡ json_tokens one
+    → bytes ≡ print written
     → tokens bytes ≡ written
     → IsPlain one → depth one ≤ max_depth → IsTextOf one bytes
 text_of one written bytes whole printed same plain shallow =

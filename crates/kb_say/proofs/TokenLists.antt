@@ -12,7 +12,8 @@ pub members_tokens-rows : (rows : List (List ℕ × Json))
 members_tokens-rows [] = refl
 members_tokens-rows (row ∷ later) =
     ap (λ tokens. key row.0 ∷ (json_tokens row.1 ++ tokens)) (members_tokens-rows later)
-    ∙ ap (λ tokens. key row.0 ∷ tokens) (sym (append_assoc (json_tokens row.1) (rows_tokens later) (end_object ∷ [])))
+    ∙ ap (λ tokens. key row.0 ∷ tokens) (sym (append_assoc (json_tokens row.1) (rows_tokens later)
+    (end_object ∷ [])))
 
 -- those of an array's values, with the bracket behind them
 pub items_tokens-values : (values : List Json)
@@ -33,7 +34,8 @@ object_written old begun filled done rows begins fills ends =
 
 -- an array that was written in three steps
 pub array_written : (old begun filled done : List Token) (values : List Json)
-    → begun ≡ old ++ begin_array ∷ [] → filled ≡ begun ++ values_tokens values → done ≡ filled ++ end_array ∷ []
+    → begun ≡ old ++ begin_array ∷ [] → filled ≡ begun ++ values_tokens values
+    → done ≡ filled ++ end_array ∷ []
     → done ≡ old ++ json_tokens (array_of values)
 array_written old begun filled done values begins fills ends =
     ends ∙ rw (fills, begins, items_tokens-values values)

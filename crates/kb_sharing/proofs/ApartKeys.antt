@@ -1,5 +1,6 @@
 -- Entries in order have different keys.
-use Rattle.std.proofs.Common.{ℕ, suc, ◌≡◌, arith, Bool, ◌&&◌, List, [], ◌∷◌, map, All, AllPairs, T, sym, ap, subst, ◌∙◌}
+use Rattle.std.proofs.Common.{ℕ, suc, ◌≡◌, arith, Bool, ◌&&◌, List, [], ◌∷◌, map, All, AllPairs, T, sym, ap}
+use Rattle.std.proofs.Common.{subst, ◌∙◌}
 use Rattle.std.proofs.lemmas.List.Elements.{All-nil, All-cons, All-map}
 use Rattle.std.proofs.lemmas.List.Kept.{AllPairs-cons}
 use Rattle.std.specs.declared.cmp.Ordering.TheVariants.{Less, Equal}
@@ -38,4 +39,5 @@ module _ {V : Type 0} where
       AllPairs-cons (λ (one other : List ℕ). one ≡ other → ⊥) entry.0 (map (λ each. each.0) later)
       (All-map (λ (key : List ℕ). entry.0 ≡ key → ⊥) (λ each. each.0) later
       (λ k d inside. apart 0 (suc k) d (omega arith) (omega (arith, inside))))
-      (keys_apart later (λ i j d below inside. apart (suc i) (suc j) d (omega (arith, below)) (omega (arith, inside))))
+      (keys_apart later (λ i j d below inside. apart (suc i) (suc j) d (omega (arith, below))
+      (omega (arith, inside))))

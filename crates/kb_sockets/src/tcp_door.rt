@@ -9,8 +9,8 @@ use std::io;
 use std::marker::Model;
 use std::net::{IpAddr, Ipv4Addr, Net, SocketAddr, TcpListener, TcpStream};
 
-/// A TCP port of this machine, seen as how many links it has handed out and got back and how many of its calls
-/// have failed.
+/// A TCP port of this machine, seen as how many links it has handed out and got back and how many of its
+/// calls have failed.
 #[derive(Drop)]
 pub struct TcpDoor<'a, R: Net<Listener = TcpListener, Stream = TcpStream>> {
     net: &'a R,

@@ -47,7 +47,8 @@ numbered-below first past (item ∷ later) high each =
     one (Repair of from to) below = (omega arith, below)
 
 -- what is below a number is below a higher one
-pub IsBelow-higher : (first past : ℕ) → first ≤ past → (item : Numbered) → IsBelow first item → IsBelow past item
+pub IsBelow-higher : (first past : ℕ) → first ≤ past → (item : Numbered) → IsBelow first item
+    → IsBelow past item
 IsBelow-higher first past high (number, Bill from to cell) below = omega arith
 IsBelow-higher first past high (number, Repair of from to) below =
     (omega (arith, below.0), omega (arith, below.1))

@@ -109,13 +109,15 @@ module _ (old : CoverValue) (due : ℕ → Option Cell) (first : ℕ) (is : IsCo
     module _ (inside : (d : ℕ) (cell : Cell) → due d ≡ Some cell → IsInCell (one_day d cell)) where
       -- the bills of a day are inside their cells
       bills-inside : (d : ℕ) → first_day ≤ d → d < end_of_days
-          → All (λ (charge : Charge). IsInCell (one_day d charge.cell)) (values_on d (new_charges old due first))
+          → All (λ (charge : Charge). IsInCell (one_day d charge.cell))
+          (values_on d (new_charges old due first))
       bills-inside d low high =
           All-mapped (λ (charge : Charge). charge.cell) (λ (cell : Cell). IsInCell (one_day d cell))
           (values_on d (new_charges old due first))
           (subst (λ (cells : List Cell). All (λ (cell : Cell). IsInCell (one_day d cell)) cells)
           (sym (values_on-billed d number missing
-          ∙ runs-cover same_cell same_cell-same (λ d. missing_among (charges old d) (due d)) first_day charged_days
+          ∙ runs-cover same_cell same_cell-same (λ d. missing_among (charges old d) (due d))
+          first_day charged_days
           d low high))
           (All-option (λ (cell : Cell). IsInCell (one_day d cell)) (missing_among (charges old d) (due d))
           (λ cell has. inside d cell (missing_among-due (charges old d) (due d) cell has))))
@@ -153,9 +155,11 @@ module _ (old : CoverValue) (due : ℕ → Option Cell) (first : ℕ) (is : IsCo
     charged = λ d low high.
         let right : wrong_among (charges old d) (due d) ≡ None =
         none-there (wrong_among (charges old d) (due d))
-        (sym (runs-cover nat_eq nat_eq-same (λ d. wrong_among (charges old d) (due d)) first_day charged_days d low
+        (sym (runs-cover nat_eq nat_eq-same (λ d. wrong_among (charges old d) (due d)) first_day
+        charged_days d low
         high) ∙ ap (values_on d) (sym none.repairs_are)) in
-        sym (ap (λ (bills : List (Stretch Cell)). charges_but (wrong_among (charges old d) (due d)) (charges old d)
+        sym (ap (λ (bills : List (Stretch Cell)). charges_but (wrong_among (charges old d) (due d))
+        (charges old d)
         ++ values_on d (billed_from number bills)) (sym none.bills_are)
         ∙ append-nil (charges_but (wrong_among (charges old d) (due d)) (charges old d))
         ∙ ap (λ (one : Option ℕ). charges_but one (charges old d)) right

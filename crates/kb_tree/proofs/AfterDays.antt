@@ -25,7 +25,12 @@ values_on-billed d number (first ∷ later) =
     by_place (cases_lt d first.from) (cases_lt d first.to) (values_on-billed d (number + 1) later)
   where
     billed : Stretch Charge
-    billed = record { from = first.from; to = first.to; value = record { number = number; cell = first.value } }
+    billed = record {
+      from = first.from;
+      to = first.to;
+      value =
+          record { number = number; cell = first.value };
+    }
 
     rest : List (Stretch Charge)
     rest = billed_from (number + 1) later
@@ -57,7 +62,8 @@ charge_after-left (Some charge) (Some cell) billed is =
     by_test (same_cell cell charge.cell) refl
   where
     by_test : (same : Bool) → same_cell cell charge.cell ≡ same
-        → option_to_list (charge_after (Some charge) (wrong_among (charge ∷ []) (Some cell)) (slice_get billed 0))
+        → option_to_list (charge_after (Some charge) (wrong_among (charge ∷ []) (Some cell))
+        (slice_get billed 0))
         ≡ charges_but (wrong_among (charge ∷ []) (Some cell)) (charge ∷ []) ++ billed
     by_test true same =
         let none : billed ≡ [] = no-charge billed (rw same at is) in rw (same, none) refl
@@ -80,16 +86,20 @@ module _ (live : List (Stretch Charge)) (charges : ℕ → List Charge) (due : �
   charge_on-left d low high one =
       let taken : value_in wrong_runs d ≡ wrong_among (charges d) (due d) =
       get-one (wrong_among (charges d) (due d)) (values_on d wrong_runs)
-      (sym (runs-cover nat_eq nat_eq-same (λ d. wrong_among (charges d) (due d)) first_day charged_days d low high)) in
+      (sym (runs-cover nat_eq nat_eq-same (λ d. wrong_among (charges d) (due d)) first_day charged_days
+      d low high)) in
       let added : cells_of (values_on d bills_from) ≡ option_to_list (missing_among (charges d) (due d)) =
       values_on-billed d number (missing_runs charges due first_day charged_days)
-      ∙ runs-cover same_cell same_cell-same (λ d. missing_among (charges d) (due d)) first_day charged_days d low
+      ∙ runs-cover same_cell same_cell-same (λ d. missing_among (charges d) (due d)) first_day
+      charged_days d low
       high in
       let left = charge_after-left (value_in live d) (due d) (values_on d bills_from)
       (subst (λ (values : List Charge). cells_of (values_on d bills_from)
       ≡ option_to_list (missing_among values (due d))) one added) in
-      ap (λ (repaired : Option ℕ). option_to_list (charge_after (value_in live d) repaired (value_in bills_from d)))
+      ap (λ (repaired : Option ℕ). option_to_list (charge_after (value_in live d) repaired
+      (value_in bills_from d)))
       (taken ∙ ap (λ (values : List Charge). wrong_among values (due d)) one)
       ∙ left
-      ∙ sym (ap (λ (values : List Charge). charges_but (wrong_among values (due d)) values ++ values_on d bills_from)
+      ∙ sym (ap (λ (values : List Charge). charges_but (wrong_among values (due d)) values
+      ++ values_on d bills_from)
       one)

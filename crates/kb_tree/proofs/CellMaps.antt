@@ -55,7 +55,8 @@ pub with_cells-other : (cells : SharedEntries Cell) (first number : ℕ) (bills 
     → number < first → cell_of (with_cells cells (billed_from first bills)) number ≡ cell_of cells number
 with_cells-other cells first number [] below = refl
 with_cells-other cells first number (bill ∷ later) below =
-    with_cells-other (map_of.insert cells (first ∷ []) bill.value) (first + 1) number later (omega (arith, below))
+    with_cells-other (map_of.insert cells (first ∷ []) bill.value) (first + 1) number later
+    (omega (arith, below))
     ∙ cell_of-other cells first number bill.value below
 
 -- a stretch's charge is known with its cell
@@ -109,7 +110,8 @@ with_cells-items items first (bill ∷ later) cells below are number =
     with_cells-items (items ++ (first, bill_of bill) ∷ []) (first + 1) later
     (map_of.insert cells (first ∷ []) bill.value)
     (All-append (IsBelow (first + 1)) items ((first, bill_of bill) ∷ [])
-    (All-weaker (IsBelow first) (IsBelow (first + 1)) (IsBelow-higher first (first + 1) (omega arith)) items below)
+    (All-weaker (IsBelow first) (IsBelow (first + 1)) (IsBelow-higher first (first + 1) (omega arith)) items
+    below)
     (All-cons (IsBelow (first + 1)) (first, bill_of bill) [] (omega arith) (All-nil (IsBelow (first + 1)))))
     (λ number.
     cell_of-insert cells first number bill.value

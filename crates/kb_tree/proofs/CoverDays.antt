@@ -89,7 +89,8 @@ module _ (cover : CoverValue) (is : IsCover cover) where
   pub charges-known : (d : ℕ) → All (λ (charge : Charge). cell_in cover charge.number ≡ Some charge.cell)
       (charges cover d)
   charges-known d =
-      All-values_on (λ (stretch : Stretch Charge). cell_in cover stretch.value.number ≡ Some stretch.value.cell)
+      All-values_on (λ (stretch : Stretch Charge). cell_in cover stretch.value.number
+      ≡ Some stretch.value.cell)
       (λ (charge : Charge). cell_in cover charge.number ≡ Some charge.cell) d
       (λ stretch known from to. known) cover.live is.known
 
@@ -101,7 +102,8 @@ module _ (cover : CoverValue) (is : IsCover cover) where
       (λ stretch inside from to. IsInCell-day d (charged_cell stretch) inside from to) cover.live is.in_cells
 
   -- a cover charges each day by what its own stretches say is due
-  pub charges-settled : IsSettled (charges cover) (due_in (map charged_cell cover.live)) first_day charged_days
+  pub charges-settled : IsSettled (charges cover) (due_in (map charged_cell cover.live))
+      first_day charged_days
   charges-settled d low high =
       first-mapped (λ (charge : Charge). charge.cell) (slice_get (charges cover d) 0) (charges cover d)
       (AreInOrder-one first_day end_of_days d cover.live is.in_order)

@@ -32,7 +32,8 @@ module _ {V : Type 0} where
       (cond-false (has_day d first) _ _ (and_right _ _ (le-ltb d first.to after)))
 
   -- stretches in order end by the end
-  pub AreInOrder-ends : (from end : ℕ) (stretches : List (Stretch V)) → AreInOrder from end stretches → from ≤ end
+  pub AreInOrder-ends : (from end : ℕ) (stretches : List (Stretch V)) → AreInOrder from end stretches
+      → from ≤ end
   AreInOrder-ends from end [] order = order
   AreInOrder-ends from end (first ∷ later) order =
       let rest = AreInOrder-ends first.to end later order.2 in omega (arith, order.0, order.1)

@@ -46,7 +46,8 @@ pub changes-items : (charges : ℕ → List Charge) (due : ℕ → Option Cell) 
     → map repair_of repairs ++ map bill_of bills ≡ new_items charges due first_day charged_days
 unfolding new_repairs new_bills
 changes-items charges due repairs bills are =
-    ap₂ (λ (repairs : List (Stretch ℕ)) (bills : List (Stretch Cell)). map repair_of repairs ++ map bill_of bills)
+    ap₂ (λ (repairs : List (Stretch ℕ)) (bills : List (Stretch Cell)). map repair_of repairs
+    ++ map bill_of bills)
     are.repairs_are are.bills_are
 
 module _ (old : CoverValue) (due : ℕ → Option Cell) (first : ℕ) (is : IsCover old) where
@@ -70,7 +71,8 @@ module _ (old : CoverValue) (due : ℕ → Option Cell) (first : ℕ) (is : IsCo
       elim (cases_lt d first_day) [
         | inl early ↦ untouched_outside (charges old) due first_day charged_days d (inl early)
         | inr low ↦ elim (cases_lt d end_of_days) [
-          | inl high ↦ untouched (charges old) before due first_day charged_days (charges-settled old is) d low high
+          | inl high ↦ untouched (charges old) before due first_day charged_days
+              (charges-settled old is) d low high
               same
           | inr late ↦ untouched_outside (charges old) due first_day charged_days d (inr late)
         ]
@@ -84,7 +86,8 @@ module _ (old : CoverValue) (due : ℕ → Option Cell) (first : ℕ) (is : IsCo
       (λ d low high. charges-known old is d)
 
   -- each new item lies inside the period of the cell by which it is priced
-  pub made-priced : ((d : ℕ) (cell : Cell) → due d ≡ Some cell → IsInCell (record { from = d; to = d + 1; value = cell }))
+  pub made-priced : ((d : ℕ) (cell : Cell) → due d ≡ Some cell
+      → IsInCell (record { from = d; to = d + 1; value = cell }))
       → All (IsPriced (cell_in old)) made
   made-priced inside =
       priced (cell_in old) (charges old) due first_day charged_days (λ d low high. charges-known old is d)
@@ -115,7 +118,8 @@ module _ (old : CoverValue) (due : ℕ → Option Cell) (first : ℕ) (is : IsCo
       -- the items make the new items that the cover makes
       same-items : made ≡ new_items (charges_on items) due first_day charged_days
       same-items =
-          new_items-agree (charges old) (charges_on items) due first_day charged_days (λ d low high. of.charged d)
+          new_items-agree (charges old) (charges_on items) due first_day charged_days
+          (λ d low high. of.charged d)
 
       -- items with the new ones
       abbrev more : List Numbered
@@ -135,7 +139,8 @@ module _ (old : CoverValue) (due : ℕ → Option Cell) (first : ℕ) (is : IsCo
           ∙ ap (λ (items : List Numbered). charges_on items d) more-is
 
       -- and on another day nothing
-      charged-outside : (d : ℕ) → (d < first_day) ⊎ (end_of_days ≤ d) → charges old d ≡ [] → charges new d ≡ []
+      charged-outside : (d : ℕ) → (d < first_day) ⊎ (end_of_days ≤ d) → charges old d ≡ []
+          → charges new d ≡ []
           → charges new d ≡ charges_on more d
       charged-outside d outside none none_new =
           none_new ∙ sym none ∙ of.charged d
@@ -166,8 +171,10 @@ module _ (old : CoverValue) (due : ℕ → Option Cell) (first : ℕ) (is : IsCo
           (numbered-below first (first + length repairs) repairs (omega arith)
           (All-front (RepairsBelow (first + length repairs)) repairs
           (new_bills (charges old) due first_day charged_days)
-          (subst (λ (items : List NewItem). All (RepairsBelow (first + length repairs)) items) (sym same-items)
-          (new_items-below items due first first_day charged_days below (first + length repairs) (omega arith)))))
+          (subst (λ (items : List NewItem). All (RepairsBelow (first + length repairs)) items)
+          (sym same-items)
+          (new_items-below items due first first_day charged_days below (first + length repairs)
+          (omega arith)))))
 
       -- the cover knows the cells of the items
       pub after-cells : (number : ℕ) → cell_in new number ≡ cell_at more number
@@ -180,8 +187,10 @@ module _ (old : CoverValue) (due : ℕ → Option Cell) (first : ℕ) (is : IsCo
           (runs nat_eq (λ d. wrong_among (charges old d) (due d)) first_day charged_days)))
           number
           ∙ ap (λ (items : List Numbered). cell_at items number)
-          (append_assoc items (numbered first repairs) (numbered (first + length repairs) (map bill_of missing))
-          ∙ ap (λ (added : List Numbered). items ++ added) (sym (numbered-append first repairs (map bill_of missing))))
+          (append_assoc items (numbered first repairs) (numbered (first + length repairs)
+          (map bill_of missing))
+          ∙ ap (λ (added : List Numbered). items ++ added)
+          (sym (numbered-append first repairs (map bill_of missing))))
 
       -- the cover made right is that of the items with the new ones
       pub after-cover_of : IsCoverOf new more

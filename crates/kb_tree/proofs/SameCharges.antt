@@ -9,7 +9,8 @@ use Rattle.kb_tree.specs.Items.{Charge}
 use Rattle.kb_tree.specs.Private.Walks.{same_charge}
 
 -- tests in a row hold whichever are taken together
-together : (a b c d e f g : Bool) → ((a && (b && c)) && (d && (e && (f && g)))) ≡ ((a && b && c) && d && e && f && g)
+together : (a b c d e f g : Bool) → ((a && (b && c)) && (d && (e && (f && g))))
+    ≡ ((a && b && c) && d && e && f && g)
 together false b c d e f g = refl
 together true false c d e f g = refl
 together true true false d e f g = refl

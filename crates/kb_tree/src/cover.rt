@@ -47,7 +47,11 @@ impl Model for Cover {
 
     ghost Value = { CoverValue };
 
-    ghost coded = { Prim.hlevel (codes, map.code {R = by_words} (coded_list coded_ℕ) cell_type.the_row.coded) };
+    ghost coded = { Prim.hlevel (
+      codes,
+      map.code {R = by_words} (coded_list coded_ℕ)
+          cell_type.the_row.coded,
+    ) };
 
     ghost view = { λ cover. record { live = live_in cover.live; cells = cover.cells } };
 
@@ -101,8 +105,8 @@ impl Cover {
     /// The cover that charges each day by the due cell, as pieces tell it, and the items that make it so,
     /// which get the numbers from `first` on: a repair where a charge isn't by the due cell, and a bill where
     /// the due cell isn't charged. The pieces stand in order, among the days that may be charged, each inside
-    /// the period of its cell. `first` is above the numbers of all bills so far, and at most 2^62. It takes no
-    /// step.
+    /// the period of its cell. `first` is above the numbers of all bills so far, and at most 2^62. It takes
+    /// no step.
     pub fn reconcile<L: Ledger>(
         &self,
         alloc: Global,

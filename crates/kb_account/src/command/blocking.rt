@@ -23,11 +23,13 @@ impl State {
         pause: &Pause,
     ) -> Result<Begun, Unprepared>
         requires sound { IsBook (value_of self.now) }
-        ensures accepted { OnOk result (own_refusal world.now (value_of self.now) today (Command.Pause pause.now) ≡ None) }
+        ensures accepted { OnOk result (own_refusal world.now (value_of self.now) today
+            (Command.Pause pause.now) ≡ None) }
         ensures begun { IfOk result (λ edit. begun_of (value_of self.now) edit
             ≡ begun world.now (value_of self.now) today (Command.Pause pause.now)) }
         ensures sound { IfOk result (λ edit. IsBegun (value_of self.now) edit) }
-        ensures refused { IfErr result (IsUnprepared (own_refusal world.now (value_of self.now) today (Command.Pause pause.now))) }
+        ensures refused { IfErr result (IsUnprepared (own_refusal world.now (value_of self.now) today
+            (Command.Pause pause.now))) }
     {
         let blocks = edits::pause(alloc, &self.timeline, &self.blocks, today, pause)?;
         Ok(self.with_blocks(alloc, blocks, today)?)
@@ -42,11 +44,13 @@ impl State {
         resume: &Resume,
     ) -> Result<Begun, Unprepared>
         requires sound { IsBook (value_of self.now) }
-        ensures accepted { OnOk result (own_refusal world.now (value_of self.now) today (Command.Resume resume.now) ≡ None) }
+        ensures accepted { OnOk result (own_refusal world.now (value_of self.now) today
+            (Command.Resume resume.now) ≡ None) }
         ensures begun { IfOk result (λ edit. begun_of (value_of self.now) edit
             ≡ begun world.now (value_of self.now) today (Command.Resume resume.now)) }
         ensures sound { IfOk result (λ edit. IsBegun (value_of self.now) edit) }
-        ensures refused { IfErr result (IsUnprepared (own_refusal world.now (value_of self.now) today (Command.Resume resume.now))) }
+        ensures refused { IfErr result (IsUnprepared (own_refusal world.now (value_of self.now) today
+            (Command.Resume resume.now))) }
     {
         let blocks = edits::resume(alloc, &self.timeline, &self.blocks, today, resume)?;
         Ok(self.with_blocks(alloc, blocks, today)?)
@@ -61,11 +65,13 @@ impl State {
         block: &Block,
     ) -> Result<Begun, Unprepared>
         requires sound { IsBook (value_of self.now) }
-        ensures accepted { OnOk result (own_refusal world.now (value_of self.now) today (Command.Block block.now) ≡ None) }
+        ensures accepted { OnOk result (own_refusal world.now (value_of self.now) today
+            (Command.Block block.now) ≡ None) }
         ensures begun { IfOk result (λ edit. begun_of (value_of self.now) edit
             ≡ begun world.now (value_of self.now) today (Command.Block block.now)) }
         ensures sound { IfOk result (λ edit. IsBegun (value_of self.now) edit) }
-        ensures refused { IfErr result (IsUnprepared (own_refusal world.now (value_of self.now) today (Command.Block block.now))) }
+        ensures refused { IfErr result (IsUnprepared (own_refusal world.now (value_of self.now) today
+            (Command.Block block.now))) }
     {
         let blocks = edits::block(
             alloc,
@@ -87,11 +93,13 @@ impl State {
         overdue: &Overdue,
     ) -> Result<Begun, Unprepared>
         requires sound { IsBook (value_of self.now) }
-        ensures accepted { OnOk result (own_refusal world.now (value_of self.now) today (Command.Overdue overdue.now) ≡ None) }
+        ensures accepted { OnOk result (own_refusal world.now (value_of self.now) today
+            (Command.Overdue overdue.now) ≡ None) }
         ensures begun { IfOk result (λ edit. begun_of (value_of self.now) edit
             ≡ begun world.now (value_of self.now) today (Command.Overdue overdue.now)) }
         ensures sound { IfOk result (λ edit. IsBegun (value_of self.now) edit) }
-        ensures refused { IfErr result (IsUnprepared (own_refusal world.now (value_of self.now) today (Command.Overdue overdue.now))) }
+        ensures refused { IfErr result (IsUnprepared (own_refusal world.now (value_of self.now) today
+            (Command.Overdue overdue.now))) }
     {
         if !self.is_transition_due(world, today) {
             return Err(Unprepared::Refused(Refusal::PaymentState));

@@ -19,11 +19,13 @@ impl State {
     /// A bill up to a day.
     pub fn bill(&self, world: &World, today: Day, bill: &Bill) -> Result<Begun, Unprepared>
         requires sound { IsBook (value_of self.now) }
-        ensures accepted { OnOk result (own_refusal world.now (value_of self.now) today (Command.Bill bill.now) ≡ None) }
+        ensures accepted { OnOk result (own_refusal world.now (value_of self.now) today
+            (Command.Bill bill.now) ≡ None) }
         ensures begun { IfOk result (λ edit. begun_of (value_of self.now) edit
             ≡ begun world.now (value_of self.now) today (Command.Bill bill.now)) }
         ensures sound { IfOk result (λ edit. IsBegun (value_of self.now) edit) }
-        ensures refused { IfErr result (IsUnprepared (own_refusal world.now (value_of self.now) today (Command.Bill bill.now))) }
+        ensures refused { IfErr result (IsUnprepared (own_refusal world.now (value_of self.now) today
+            (Command.Bill bill.now))) }
     {
         let same = self.unedited()?;
         let day = asked_day(bill.day, today);
@@ -36,11 +38,13 @@ impl State {
     /// A charge from outside the catalog.
     pub fn charge(&self, world: &World, today: Day, charge: &Charge) -> Result<Begun, Unprepared>
         requires sound { IsBook (value_of self.now) }
-        ensures accepted { OnOk result (own_refusal world.now (value_of self.now) today (Command.Charge charge.now) ≡ None) }
+        ensures accepted { OnOk result (own_refusal world.now (value_of self.now) today
+            (Command.Charge charge.now) ≡ None) }
         ensures begun { IfOk result (λ edit. begun_of (value_of self.now) edit
             ≡ begun world.now (value_of self.now) today (Command.Charge charge.now)) }
         ensures sound { IfOk result (λ edit. IsBegun (value_of self.now) edit) }
-        ensures refused { IfErr result (IsUnprepared (own_refusal world.now (value_of self.now) today (Command.Charge charge.now))) }
+        ensures refused { IfErr result (IsUnprepared (own_refusal world.now (value_of self.now) today
+            (Command.Charge charge.now))) }
     {
         let amount = charge.amount.units();
         if MAX_CHARGE < amount {
@@ -56,11 +60,13 @@ impl State {
     /// A credit that is granted.
     pub fn credit(&self, world: &World, today: Day, credit: &Credit) -> Result<Begun, Unprepared>
         requires sound { IsBook (value_of self.now) }
-        ensures accepted { OnOk result (own_refusal world.now (value_of self.now) today (Command.Credit credit.now) ≡ None) }
+        ensures accepted { OnOk result (own_refusal world.now (value_of self.now) today
+            (Command.Credit credit.now) ≡ None) }
         ensures begun { IfOk result (λ edit. begun_of (value_of self.now) edit
             ≡ begun world.now (value_of self.now) today (Command.Credit credit.now)) }
         ensures sound { IfOk result (λ edit. IsBegun (value_of self.now) edit) }
-        ensures refused { IfErr result (IsUnprepared (own_refusal world.now (value_of self.now) today (Command.Credit credit.now))) }
+        ensures refused { IfErr result (IsUnprepared (own_refusal world.now (value_of self.now) today
+            (Command.Credit credit.now))) }
     {
         let amount = credit.amount.units();
         if MAX_CHARGE < amount {
@@ -76,11 +82,13 @@ impl State {
     /// Whether invoices are paid by themselves.
     pub fn autopay(&self, world: &World, today: Day, autopay: &Autopay) -> Result<Begun, Unprepared>
         requires sound { IsBook (value_of self.now) }
-        ensures accepted { OnOk result (own_refusal world.now (value_of self.now) today (Command.Autopay autopay.now) ≡ None) }
+        ensures accepted { OnOk result (own_refusal world.now (value_of self.now) today
+            (Command.Autopay autopay.now) ≡ None) }
         ensures begun { IfOk result (λ edit. begun_of (value_of self.now) edit
             ≡ begun world.now (value_of self.now) today (Command.Autopay autopay.now)) }
         ensures sound { IfOk result (λ edit. IsBegun (value_of self.now) edit) }
-        ensures refused { IfErr result (IsUnprepared (own_refusal world.now (value_of self.now) today (Command.Autopay autopay.now))) }
+        ensures refused { IfErr result (IsUnprepared (own_refusal world.now (value_of self.now) today
+            (Command.Autopay autopay.now))) }
     {
         let same = self.unedited()?;
         Ok(Begun {

@@ -35,11 +35,13 @@ impl State {
         pay: &Pay,
     ) -> Result<Begun, Unprepared>
         requires sound { IsBook (value_of self.now) }
-        ensures accepted { OnOk result (own_refusal world.now (value_of self.now) today (Command.Pay pay.now) ≡ None) }
+        ensures accepted { OnOk result (own_refusal world.now (value_of self.now) today
+            (Command.Pay pay.now) ≡ None) }
         ensures begun { IfOk result (λ edit. begun_of (value_of self.now) edit
             ≡ begun world.now (value_of self.now) today (Command.Pay pay.now)) }
         ensures sound { IfOk result (λ edit. IsBegun (value_of self.now) edit) }
-        ensures refused { IfErr result (IsUnprepared (own_refusal world.now (value_of self.now) today (Command.Pay pay.now))) }
+        ensures refused { IfErr result (IsUnprepared (own_refusal world.now (value_of self.now) today
+            (Command.Pay pay.now))) }
     {
         let payments = edits::pay(alloc, &self.payments, &self.invoices, today, pay)?;
         Ok(self.with_payments(alloc, payments, NOTHING)?)
@@ -54,11 +56,13 @@ impl State {
         refund: &Refund,
     ) -> Result<Begun, Unprepared>
         requires sound { IsBook (value_of self.now) }
-        ensures accepted { OnOk result (own_refusal world.now (value_of self.now) today (Command.Refund refund.now) ≡ None) }
+        ensures accepted { OnOk result (own_refusal world.now (value_of self.now) today
+            (Command.Refund refund.now) ≡ None) }
         ensures begun { IfOk result (λ edit. begun_of (value_of self.now) edit
             ≡ begun world.now (value_of self.now) today (Command.Refund refund.now)) }
         ensures sound { IfOk result (λ edit. IsBegun (value_of self.now) edit) }
-        ensures refused { IfErr result (IsUnprepared (own_refusal world.now (value_of self.now) today (Command.Refund refund.now))) }
+        ensures refused { IfErr result (IsUnprepared (own_refusal world.now (value_of self.now) today
+            (Command.Refund refund.now))) }
     {
         let payments = edits::refund(alloc, &self.payments, today, refund)?;
         Ok(self.with_payments(alloc, payments, NOTHING)?)
@@ -73,11 +77,13 @@ impl State {
         chargeback: &Chargeback,
     ) -> Result<Begun, Unprepared>
         requires sound { IsBook (value_of self.now) }
-        ensures accepted { OnOk result (own_refusal world.now (value_of self.now) today (Command.Chargeback chargeback.now) ≡ None) }
+        ensures accepted { OnOk result (own_refusal world.now (value_of self.now) today
+            (Command.Chargeback chargeback.now) ≡ None) }
         ensures begun { IfOk result (λ edit. begun_of (value_of self.now) edit
             ≡ begun world.now (value_of self.now) today (Command.Chargeback chargeback.now)) }
         ensures sound { IfOk result (λ edit. IsBegun (value_of self.now) edit) }
-        ensures refused { IfErr result (IsUnprepared (own_refusal world.now (value_of self.now) today (Command.Chargeback chargeback.now))) }
+        ensures refused { IfErr result (IsUnprepared (own_refusal world.now (value_of self.now) today
+            (Command.Chargeback chargeback.now))) }
     {
         let payments = edits::chargeback(alloc, &self.payments, today, chargeback)?;
         let invoice = self.invoice_of(chargeback.of);
@@ -94,11 +100,13 @@ impl State {
         settle: &Settle,
     ) -> Result<Begun, Unprepared>
         requires sound { IsBook (value_of self.now) }
-        ensures accepted { OnOk result (own_refusal world.now (value_of self.now) today (Command.Settle settle.now) ≡ None) }
+        ensures accepted { OnOk result (own_refusal world.now (value_of self.now) today
+            (Command.Settle settle.now) ≡ None) }
         ensures begun { IfOk result (λ edit. begun_of (value_of self.now) edit
             ≡ begun world.now (value_of self.now) today (Command.Settle settle.now)) }
         ensures sound { IfOk result (λ edit. IsBegun (value_of self.now) edit) }
-        ensures refused { IfErr result (IsUnprepared (own_refusal world.now (value_of self.now) today (Command.Settle settle.now))) }
+        ensures refused { IfErr result (IsUnprepared (own_refusal world.now (value_of self.now) today
+            (Command.Settle settle.now))) }
     {
         let (payments, amount) = edits::settle(alloc, &self.payments, settle)?;
         let moved = move_on(self.invoice_of(settle.payment), amount);
@@ -114,11 +122,13 @@ impl State {
         auto: &Auto,
     ) -> Result<Begun, Unprepared>
         requires sound { IsBook (value_of self.now) }
-        ensures accepted { OnOk result (own_refusal world.now (value_of self.now) today (Command.Auto auto.now) ≡ None) }
+        ensures accepted { OnOk result (own_refusal world.now (value_of self.now) today
+            (Command.Auto auto.now) ≡ None) }
         ensures begun { IfOk result (λ edit. begun_of (value_of self.now) edit
             ≡ begun world.now (value_of self.now) today (Command.Auto auto.now)) }
         ensures sound { IfOk result (λ edit. IsBegun (value_of self.now) edit) }
-        ensures refused { IfErr result (IsUnprepared (own_refusal world.now (value_of self.now) today (Command.Auto auto.now))) }
+        ensures refused { IfErr result (IsUnprepared (own_refusal world.now (value_of self.now) today
+            (Command.Auto auto.now))) }
     {
         let number = auto.invoice.number();
         if self.invoice_due(today) != Some(number) {
@@ -165,7 +175,8 @@ impl State {
     /// The invoice of the attempt of a key; 0 if there is none.
     fn invoice_of(&self, key: Name) -> u32
         ensures invoice { result ≡ invoice_of (value_of self.now).payments key }
-        ensures amount { IfSome (attempt_of (value_of self.now).payments key) (λ attempt. attempt.amount < 2 ^ 64) }
+        ensures amount { IfSome (attempt_of (value_of self.now).payments key)
+            (λ attempt. attempt.amount < 2 ^ 64) }
         ensures sound { ArePayments (value_of self.now).payments }
     {
         match self.payments.attempt(key) {

@@ -23,11 +23,13 @@ impl State {
         create: &Create,
     ) -> Result<Begun, Unprepared>
         requires sound { IsBook (value_of self.now) }
-        ensures accepted { OnOk result (own_refusal world.now (value_of self.now) today (Command.Create create.now) ≡ None) }
+        ensures accepted { OnOk result (own_refusal world.now (value_of self.now) today
+            (Command.Create create.now) ≡ None) }
         ensures begun { IfOk result (λ edit. begun_of (value_of self.now) edit
             ≡ begun world.now (value_of self.now) today (Command.Create create.now)) }
         ensures sound { IfOk result (λ edit. IsBegun (value_of self.now) edit) }
-        ensures refused { IfErr result (IsUnprepared (own_refusal world.now (value_of self.now) today (Command.Create create.now))) }
+        ensures refused { IfErr result (IsUnprepared (own_refusal world.now (value_of self.now) today
+            (Command.Create create.now))) }
     {
         match edits::start(alloc, &self.facts(world), today, create) {
             Ok(timeline) => Ok(self.with_timeline(alloc, timeline, true, today)?),
@@ -44,11 +46,13 @@ impl State {
         change: &Change,
     ) -> Result<Begun, Unprepared>
         requires sound { IsBook (value_of self.now) }
-        ensures accepted { OnOk result (own_refusal world.now (value_of self.now) today (Command.Change change.now) ≡ None) }
+        ensures accepted { OnOk result (own_refusal world.now (value_of self.now) today
+            (Command.Change change.now) ≡ None) }
         ensures begun { IfOk result (λ edit. begun_of (value_of self.now) edit
             ≡ begun world.now (value_of self.now) today (Command.Change change.now)) }
         ensures sound { IfOk result (λ edit. IsBegun (value_of self.now) edit) }
-        ensures refused { IfErr result (IsUnprepared (own_refusal world.now (value_of self.now) today (Command.Change change.now))) }
+        ensures refused { IfErr result (IsUnprepared (own_refusal world.now (value_of self.now) today
+            (Command.Change change.now))) }
     {
         let timeline = edits::change(alloc, &self.facts(world), self.billed, today, change)?;
         Ok(self.with_timeline(alloc, timeline, false, today)?)
@@ -63,11 +67,13 @@ impl State {
         cancel: &Cancel,
     ) -> Result<Begun, Unprepared>
         requires sound { IsBook (value_of self.now) }
-        ensures accepted { OnOk result (own_refusal world.now (value_of self.now) today (Command.Cancel cancel.now) ≡ None) }
+        ensures accepted { OnOk result (own_refusal world.now (value_of self.now) today
+            (Command.Cancel cancel.now) ≡ None) }
         ensures begun { IfOk result (λ edit. begun_of (value_of self.now) edit
             ≡ begun world.now (value_of self.now) today (Command.Cancel cancel.now)) }
         ensures sound { IfOk result (λ edit. IsBegun (value_of self.now) edit) }
-        ensures refused { IfErr result (IsUnprepared (own_refusal world.now (value_of self.now) today (Command.Cancel cancel.now))) }
+        ensures refused { IfErr result (IsUnprepared (own_refusal world.now (value_of self.now) today
+            (Command.Cancel cancel.now))) }
     {
         let timeline = edits::cancel(alloc, &self.facts(world), self.billed, today, cancel)?;
         Ok(self.with_timeline(alloc, timeline, false, today)?)
@@ -82,11 +88,13 @@ impl State {
         uncancel: &Uncancel,
     ) -> Result<Begun, Unprepared>
         requires sound { IsBook (value_of self.now) }
-        ensures accepted { OnOk result (own_refusal world.now (value_of self.now) today (Command.Uncancel uncancel.now) ≡ None) }
+        ensures accepted { OnOk result (own_refusal world.now (value_of self.now) today
+            (Command.Uncancel uncancel.now) ≡ None) }
         ensures begun { IfOk result (λ edit. begun_of (value_of self.now) edit
             ≡ begun world.now (value_of self.now) today (Command.Uncancel uncancel.now)) }
         ensures sound { IfOk result (λ edit. IsBegun (value_of self.now) edit) }
-        ensures refused { IfErr result (IsUnprepared (own_refusal world.now (value_of self.now) today (Command.Uncancel uncancel.now))) }
+        ensures refused { IfErr result (IsUnprepared (own_refusal world.now (value_of self.now) today
+            (Command.Uncancel uncancel.now))) }
     {
         let timeline = edits::uncancel(alloc, &self.facts(world), uncancel)?;
         Ok(self.with_timeline(alloc, timeline, false, today)?)

@@ -100,7 +100,8 @@ fn push_shown(items: &mut Vec<ItemView>, item: Option<ItemView>) -> Result<(), N
 
 /// The item of a number, if it is one of the invoice.
 fn shown_item(timeline: &Timeline, invoices: &Invoices, invoice: u32, item: u64) -> Option<ItemView>
-    ensures { result ≡ option_and_then (shown_item timeline.now invoice item) (numbered item invoices.now.items) }
+    ensures { result ≡ option_and_then (shown_item timeline.now invoice item)
+        (numbered item invoices.now.items) }
 {
     let (number, line) = invoices.item(item)?;
     if number == invoice {

@@ -60,7 +60,8 @@ fn view_at(
     sub: u32,
 ) -> Result<SubscriptionView, NoMemory>
     requires there { sub < length facts.now.timeline.subscriptions }
-    ensures { IfOk result (λ view. IfSome (slice_get facts.now.timeline.subscriptions sub) (λ subscription. view
+    ensures { IfOk result (λ view. IfSome (slice_get facts.now.timeline.subscriptions sub)
+        (λ subscription. view
         ≡ place_view facts.now billed day sub subscription)) }
 {
     let subscription = facts.timeline.subscription(sub);

@@ -8,4 +8,5 @@ use Rattle.kb_lane.specs.Asking.{asks_in}
 
 -- a command settles none of the payments that an outbox is yet to ask for
 abbrev pub SettlesNone : Command → List Work → Type 0
-SettlesNone command outbox = All (λ (one : Asked). settles command one.account one.key ≡ false) (asks_in outbox)
+SettlesNone command outbox = All (λ (one : Asked). settles command one.account one.key ≡ false)
+    (asks_in outbox)

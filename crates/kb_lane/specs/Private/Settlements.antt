@@ -21,7 +21,8 @@ use Rattle.kb_lane.specs.declared.settlement.Settlement.{Settlement}
 use Rattle.kb_lane.specs.declared.settlement.Settlements.{Settlements}
 
 -- A command that is ready: it is new to the machine, with this change and these bytes.
-pub record IsReadyOf (machine : MachineValue) (today : ℕ) (command : Command) (ready : Settlement) : Type 0 where
+pub record IsReadyOf (machine : MachineValue) (today : ℕ) (command : Command)
+    (ready : Settlement) : Type 0 where
   pub is_it : ready.command ≡ command
   pub planned : judged machine today command ≡ New (change_reply ready.change) (changed machine ready.change)
   pub there : IsThere machine ready.change
@@ -40,7 +41,8 @@ AddsReady machine today account key to old new = (one : Settlement) × (new ≡ 
     × IsReady machine today account key to one
 
 -- one for each status that a gateway may tell
-pub record AreReady (machine : MachineValue) (today : ℕ) (account key : List ℕ) (ready : Settlements) : Type 0 where
+pub record AreReady (machine : MachineValue) (today : ℕ) (account key : List ℕ)
+    (ready : Settlements) : Type 0 where
   pub success : Settlement
   pub pending : Settlement
   pub payment_failure : Settlement

@@ -25,7 +25,8 @@ impl Payments {
     #[tactic(auto, using(crate::proofs::MapEntries::found_entry))]
     pub(super) fn on_invoice(&self, invoice: u32) -> OnInvoice
         ensures opens { (if result.has_open then pos 1 else pos 0) ≡ open_purchases self.now invoice }
-        ensures automatic { (day : ℕ) → is_since result.automatic day ≡ has_automatic_since self.now invoice day }
+        ensures automatic { (day : ℕ) → is_since result.automatic day
+            ≡ has_automatic_since self.now invoice day }
     {
         match self.invoices.get(&invoice) {
             Some(kept) => *kept,

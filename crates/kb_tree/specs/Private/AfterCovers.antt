@@ -37,7 +37,8 @@ new_charges cover due first =
     (missing_runs (charges cover) due first_day charged_days)
 
 -- a cover is another one made right, by new items with the numbers from one on
-pub record IsCoverAfter (old : CoverValue) (due : ℕ → Option Cell) (first : ℕ) (new : CoverValue) : Type 0 where
+pub record IsCoverAfter (old : CoverValue) (due : ℕ → Option Cell) (first : ℕ)
+    (new : CoverValue) : Type 0 where
   pub charged : (d : ℕ) → first_day ≤ d → d < end_of_days
       → charges new d ≡ charges_after (charges old) due first_day charged_days first d
   pub celled : new.cells ≡ with_cells old.cells (new_charges old due first)

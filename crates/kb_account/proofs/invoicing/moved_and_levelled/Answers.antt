@@ -7,7 +7,8 @@ use Rattle.kb_account.proofs.invoicing.moved_and_levelled.Goals as goal
 
 pub returns-clause-after : goal.returns-clause-after
 returns-clause-after c =
-    let after : c.in_ok-levelled-2.levelled ≡ levelled (paid_on c.args.invoices.now c.args.moved.invoice c.args.moved.amount) =
+    let after : c.in_ok-levelled-2.levelled ≡ levelled (paid_on c.args.invoices.now c.args.moved.invoice
+    c.args.moved.amount) =
     search rules in
     after
     ∙ ap (λ (invoices : InvoicesValue). levelled invoices)

@@ -17,7 +17,8 @@ returns-clause-performed g c =
       gateway = c.perform.ensures.gateway;
       own = c.perform.ensures.own;
     } in
-    goes_at (λ lane next. Performs g.D.Disk.fault_count lane next c.args.today c.args.command.now c.perform.result
+    goes_at (λ lane next. Performs g.D.Disk.fault_count lane next c.args.today c.args.command.now
+    c.perform.result
     × Continues g.D.Disk.honest g.D.Disk.moment g.D.Disk.left_since g.D.Disk.fault_count lane next)
     c.args.lanes.now.items c.args.place c.index_mut.result.now c.perform.new.self c.requires.within
     c.index_mut.ensures.value (
@@ -25,7 +26,8 @@ returns-clause-performed g c =
       record {
         well = well_performs g.D.Disk.honest g.D.Disk.moment g.D.Disk.left_since g.D.Disk.fault_count
             c.index_mut.result.now c.perform.new.self c.args.today c.perform.ensures.itself.lanes
-            c.perform.ensures.itself.lane c.args.command.now c.perform.result performs c.perform.ensures.moments;
+            c.perform.ensures.itself.lane c.args.command.now c.perform.result performs
+            c.perform.ensures.moments;
         itself = c.perform.ensures.itself;
       },
     )

@@ -5,7 +5,8 @@ use Rattle.kb_apply.proofs.look_ups.look_up_in.Goals as goal
 
 pub returns-clause-looked : goal.returns-clause-looked
 returns-clause-looked g c =
-    goes_at (λ lane next. LooksAllUp g.D.Disk.fault_count g.G.Gateway.asked g.G.Gateway.said g.G.Gateway.faults
+    goes_at (λ lane next. LooksAllUp g.D.Disk.fault_count g.G.Gateway.asked g.G.Gateway.said
+    g.G.Gateway.faults
     c.args.today lane next c.janitor.result
     × Continues g.D.Disk.honest g.D.Disk.moment g.D.Disk.left_since g.D.Disk.fault_count lane next)
     c.args.lanes.now.items c.args.place c.index_mut.result.now

@@ -24,7 +24,8 @@ loop-items-preserved g c =
       omega (arith, walk.0),
       omega (arith, long, walk.1, c.in_ok-more.ensures.few),
       c.in_ok-more.ensures.steps ∙ walk.2,
-      all-below (c.args.first + length l.lines.items) (c.args.first + length c.extend_from_slice.new.self.items)
+      all-below (c.args.first + length l.lines.items) (c.args.first + length
+          c.extend_from_slice.new.self.items)
           l.all.items c.push.new.self.items c.in_ok-more.more (omega (arith, long)) walk.3
           (AreBelow-higher (c.args.first + c.len.result + length c.in_ok-more.new_lines.items)
           (c.args.first + length c.extend_from_slice.new.self.items) c.in_ok-more.more
@@ -42,5 +43,6 @@ loop-items-preserved g c =
           (sym
           (c.in_ok-extend_from_slice.ensures.items
           ∙ ap (λ (lines : List Line). l.lines.items ++ lines) c.deref.ensures.value))
-          (All-append IsItemLine l.lines.items c.in_ok-more.new_lines.items walk.5 c.in_ok-more.ensures.plain),
+          (All-append IsItemLine l.lines.items c.in_ok-more.new_lines.items walk.5
+          c.in_ok-more.ensures.plain),
     )

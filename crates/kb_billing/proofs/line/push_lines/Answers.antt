@@ -10,8 +10,10 @@ use Rattle.kb_billing.proofs.line.push_lines.Goals as goal
 pub loop-item-preserved : goal.loop-item-preserved
 loop-item-preserved c =
     let l = c.loop-item in (
-      lines-pushed c.args.sub c.args.recurring (cell_at c.args.coverage.now) c.args.items.now c.item-item.result
-          l.item-index l.lines.items c.push.new.self.items c.line_of.result c.loop-item-test.true c.item-item.is
+      lines-pushed c.args.sub c.args.recurring (cell_at c.args.coverage.now) c.args.items.now
+          c.item-item.result
+          l.item-index l.lines.items c.push.new.self.items c.line_of.result c.loop-item-test.true
+          c.item-item.is
           c.in_ok-push.ensures.items c.line_of.ensures.line
           ∙ l.invariant.0,
       λ before. subst (λ (lines : List Line). All IsItemLine lines) (sym c.in_ok-push.ensures.items)

@@ -7,7 +7,8 @@ use Rattle.kb_billing.proofs.subscription.subscription_issue.Goals as goal
 
 pub returns-clause-below : goal.returns-clause-below
 returns-clause-below g c =
-    let long = lines-length c.new-lines.result.items c.push_lines.new.lines.items c.push_lines-2.new.lines.items
+    let long = lines-length c.new-lines.result.items c.push_lines.new.lines.items
+    c.push_lines-2.new.lines.items
     c.args.sub false true (cell_at c.charges.inside.fees) (cell_at c.charges.inside.recurring)
     c.in_ok-fees.new_fees.items c.deref-3.result.now c.in_ok-recurring.new_charges.items c.deref-4.result.now
     c.new-lines.ensures.items c.deref-3.ensures.value c.deref-4.ensures.value c.in_ok-push_lines.ensures.lines
@@ -24,7 +25,8 @@ returns-clause-below g c =
 
 pub returns-clause-few : goal.returns-clause-few
 returns-clause-few g c =
-    let long = lines-length c.new-lines.result.items c.push_lines.new.lines.items c.push_lines-2.new.lines.items
+    let long = lines-length c.new-lines.result.items c.push_lines.new.lines.items
+    c.push_lines-2.new.lines.items
     c.args.sub false true (cell_at c.charges.inside.fees) (cell_at c.charges.inside.recurring)
     c.in_ok-fees.new_fees.items c.deref-3.result.now c.in_ok-recurring.new_charges.items c.deref-4.result.now
     c.new-lines.ensures.items c.deref-3.ensures.value c.deref-4.ensures.value c.in_ok-push_lines.ensures.lines

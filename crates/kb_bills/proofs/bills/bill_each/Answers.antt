@@ -1,4 +1,5 @@
-use Rattle.std.proofs.Common.{◌≡◌, ◌≤◌, ◌+◌, ◌*◌, ◌++◌, ◌∷◌, [], List, length, arith, sym, ap, ap₂, subst, ◌∙◌}
+use Rattle.std.proofs.Common.{◌≡◌, ◌≤◌, ◌+◌, ◌*◌, ◌++◌, ◌∷◌, [], List, length, arith, sym, ap, ap₂, subst}
+use Rattle.std.proofs.Common.{◌∙◌}
 use Rattle.std.proofs.lemmas.List.{append-nil}
 use Rattle.kb_lane.proofs.Going.{itself_then, well_then}
 use Rattle.kb_bills.specs.Bills.{BillsEach}
@@ -24,7 +25,8 @@ plus-tally-requires g c = record {
     2 * c.loop-account.account-index + 1,
     1,
     omega (arith, c.requires.few, c.loop-account-test.true),
-    rw (c.plus.ensures, c.of_reply.ensures) (plus_most (2 * c.loop-account.account-index) 1 c.loop-account.tally
+    rw (c.plus.ensures, c.of_reply.ensures) (plus_most (2 * c.loop-account.account-index) 1
+        c.loop-account.tally
         (of_reply c.bill_account-reply.result.0) c.loop-account.invariant.1
         (reply_most c.bill_account-reply.result.0)),
     rw c.of_step.ensures (step_most c.bill_account-reply.result.1),
@@ -42,7 +44,8 @@ loop-account-preserved g c =
     c.of_step.ensures in
     let most : IsAtMost (2 * place + 1 + 1) (with_answer c.loop-account.tally (reply, step))
     = plus_most (2 * place + 1) 1 _ (of_step step)
-    (plus_most (2 * place) 1 c.loop-account.tally (of_reply reply) c.loop-account.invariant.1 (reply_most reply))
+    (plus_most (2 * place) 1 c.loop-account.tally (of_reply reply) c.loop-account.invariant.1
+    (reply_most reply))
     (step_most step) in
     let further : 2 * place + 1 + 1 ≡ 2 * (place + 1) = omega arith in (
       (
@@ -54,8 +57,10 @@ loop-account-preserved g c =
             c.account-item.result c.loop-account-test.true c.account-item.is c.bill_account-reply.new.lane
             (reply, step) c.bill_account-reply.ensures.billed,
       ),
-      rw counted (subst (λ count. IsAtMost count (with_answer c.loop-account.tally (reply, step))) further most),
-      well_then g.D.Disk.honest g.D.Disk.moment g.D.Disk.left_since c.args.lane.now.log c.loop-account.lane.log
+      rw counted (subst (λ count. IsAtMost count (with_answer c.loop-account.tally (reply, step)))
+          further most),
+      well_then g.D.Disk.honest g.D.Disk.moment g.D.Disk.left_since c.args.lane.now.log
+          c.loop-account.lane.log
           c.bill_account-reply.new.lane.log c.loop-account.invariant.2 c.bill_account-reply.ensures.well
           c.loop-account.invariant.3.as_honest c.bill_account-reply.ensures.itself.lanes
           c.bill_account-reply.ensures.itself.lane,
@@ -66,11 +71,13 @@ loop-account-preserved g c =
 pub returns-clause-billed : goal.returns-clause-billed
 returns-clause-billed g c =
     let done = c.loop-account.invariant.0.0 in
-    let end : length c.args.accounts.now ≤ c.loop-account.account-index = omega (arith, c.loop-account-test.false) in
+    let end : length c.args.accounts.now ≤ c.loop-account.account-index =
+    omega (arith, c.loop-account-test.false) in
     let all = all_billed g.D.Disk.fault_count g.G.Gateway.asked g.G.Gateway.said g.G.Gateway.faults c.args.day
     c.args.accounts.now c.loop-account.account-index c.args.lane.now c.loop-account.lane done
     c.loop-account.invariant.0.2 end in
     let P : List Answer → Type 0
-    = λ answers. BillsEach g.D.Disk.fault_count g.G.Gateway.asked g.G.Gateway.said g.G.Gateway.faults c.args.day
+    = λ answers. BillsEach g.D.Disk.fault_count g.G.Gateway.asked g.G.Gateway.said
+    g.G.Gateway.faults c.args.day
     c.args.accounts.now c.args.lane.now c.loop-account.lane answers in
     (done, c.loop-account.invariant.0.1, subst P (append-nil done) all)

@@ -7,7 +7,8 @@ pub returns-clause-well : goal.returns-clause-well
 returns-clause-well g c =
     well_performs g.D.Disk.honest g.D.Disk.moment g.D.Disk.left_since g.D.Disk.fault_count c.args.lane.now
     c.perform.new.self c.args.day c.perform.ensures.itself.lanes c.perform.ensures.itself.lane
-    (kinds.Bill (record { account = c.args.account; key = c.args.key; day = Some c.args.day })) c.perform.result
+    (kinds.Bill (record { account = c.args.account; key = c.args.key; day = Some c.args.day }))
+    c.perform.result
     (record {
       told = c.perform.ensures.reply;
       taken = c.perform.ensures.taken;

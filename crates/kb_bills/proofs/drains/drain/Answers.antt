@@ -26,7 +26,8 @@ entries-preserved g c = (
 
 pub returns-in_default : goal.returns-in_default
 returns-in_default g c = record {
-  drained = ended (Handles g.D.Disk.fault_count g.G.Gateway.asked g.G.Gateway.said g.G.Gateway.faults c.args.today)
+  drained = ended (Handles g.D.Disk.fault_count g.G.Gateway.asked g.G.Gateway.said
+      g.G.Gateway.faults c.args.today)
       (lane_work c.args.today) c.args.lane.now c.entries.lane c.handle.new.lane c.handle.result
       c.entries.invariant.0.0 c.entries.invariant.0.1 c.entries.invariant.0.2 c.in_default.not-Done
       c.handle.ensures.handled;

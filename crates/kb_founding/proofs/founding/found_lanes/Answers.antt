@@ -17,17 +17,20 @@ ran g c =
     let one = c.deref.ensures.value in
     let other = c.deref-2.ensures.value in
     let first : c.deref.result.now ≡ payload (c.args.today, catalog_command told.0) = let is = told.3 in cc in
-    let second : c.deref-2.result.now ≡ payload (c.args.today, overdue_command told.1) = let is = told.4 in cc in
+    let second : c.deref-2.result.now ≡ payload (c.args.today, overdue_command told.1) = let is =
+    told.4 in cc in
     from_start c.args.folder.now c.args.lanes _ (g.V.Vault.lane_bytes c.both_records.new.vault)
     (g.V.Vault.lane_bytes c.found_each.new.vault) (g.V.Vault.lane_bytes c.args.vault.now) c.found_each.result
     c.both_records.ensures.same_lanes
     (subst (λ (records : List (List _)). Founds c.args.folder.now c.args.lanes records
-    (g.V.Vault.lane_bytes c.both_records.new.vault) (g.V.Vault.lane_bytes c.found_each.new.vault) c.found_each.result)
+    (g.V.Vault.lane_bytes c.both_records.new.vault) (g.V.Vault.lane_bytes c.found_each.new.vault)
+    c.found_each.result)
     (ap₂ (λ a b. a ∷ b ∷ []) first second) c.found_each.ensures.founds)
 
 pub returns-clause-founded : goal.returns-clause-founded
 returns-clause-founded g c =
-    founded_with c.args.today c.args.folder.now c.args.lanes (g.V.Vault.file_bytes c.args.vault.now c.args.catalog.now)
+    founded_with c.args.today c.args.folder.now c.args.lanes
+    (g.V.Vault.file_bytes c.args.vault.now c.args.catalog.now)
     (g.V.Vault.file_bytes c.args.vault.now c.args.overdue.now) (g.V.Vault.lane_bytes c.args.vault.now)
     (g.V.Vault.lane_bytes c.found_each.new.vault) c.in-Ok.ensures.records.0 c.in-Ok.ensures.records.1
     c.in-Ok.ensures.records.2 c.found_each.result (ran g c)

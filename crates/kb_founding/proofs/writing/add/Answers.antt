@@ -13,4 +13,5 @@ pub unreachable-requires-in-Err-Full : goal.unreachable-requires-in-Err-Full
 unreachable-requires-in-Err-Full g c =
     let told = (c.append.ensures.full c.in-Err-Full.field-0-0 c.in-Err-Full.field-0-1).0
     (c.in-Err-Full.is ∙ ap Err c.in-Err-Full.field-0-is) in
-    has_room c.args.journal.now (length c.args.bytes.now) c.requires.few c.requires.short c.requires.sized.few told.1
+    has_room c.args.journal.now (length c.args.bytes.now) c.requires.few c.requires.short
+    c.requires.sized.few told.1

@@ -7,7 +7,8 @@ returns-in-Ok-take_body-clause-request g c =
     let whole = c.in-Ok.ensures.whole in (
       take (c.in-Ok.found.0.len + c.in-Ok.found.1) c.read_whole.new.pending.items,
       consumes _ _ c.args.pending.now.items c.read_whole.new.pending.items c.take_body.new.pending.items
-          (c.in-Ok.found.0.len + c.in-Ok.found.1) c.read_whole.ensures.ahead.kept c.in-Ok-take_body.ensures.rest,
+          (c.in-Ok.found.0.len + c.in-Ok.found.1) c.read_whole.ensures.ahead.kept
+          c.in-Ok-take_body.ensures.rest,
       is_request c.args.given c.read_whole.new.pending.items c.in-Ok.found.0 c.in-Ok.found.1 _ whole
           (c.from_vec.ensures ∙ c.in-Ok-take_body.ensures.body) refl c.closes.ensures,
     )

@@ -18,5 +18,7 @@ end_of-end-requires-clause-unfinished g c =
 
 pub returns-in-Ok-false-clause-err : goal.returns-in-Ok-false-clause-err
 returns-in-Ok-false-clause-err g c =
-    stops_along _ _ _ c.args.pending.now.items c.deref.result.now c.read_to_mark.new.pending.items c.end_of-end.result
-    c.deref.ensures.value (c.in-Ok-false.ensures.end c.in-Ok-false.field-0-test).0 (c.end_of-end.ensures _ _ _ (c.in-Ok-false.ensures.end c.in-Ok-false.field-0-test).1)
+    stops_along _ _ _ c.args.pending.now.items c.deref.result.now c.read_to_mark.new.pending.items
+    c.end_of-end.result
+    c.deref.ensures.value (c.in-Ok-false.ensures.end c.in-Ok-false.field-0-test).0
+    (c.end_of-end.ensures _ _ _ (c.in-Ok-false.ensures.end c.in-Ok-false.field-0-test).1)

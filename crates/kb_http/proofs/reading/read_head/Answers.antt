@@ -5,11 +5,13 @@ use Rattle.kb_http.proofs.reading.read_head.Goals as goal
 
 pub returns-in-Whole-clause-head : goal.returns-in-Whole-clause-head
 returns-in-Whole-clause-head g c =
-    has_head_along c.looks.pending.items c.deref.result.now c.in-Whole.head c.deref.ensures.value c.in-Whole.ensures
+    has_head_along c.looks.pending.items c.deref.result.now c.in-Whole.head c.deref.ensures.value
+    c.in-Whole.ensures
 
 pub returns-in-Refused-clause-err : goal.returns-in-Refused-clause-err
 returns-in-Refused-clause-err g c =
-    refused_along c.looks.pending.items c.deref.result.now c.in-Refused.status c.deref.ensures.value c.in-Refused.ensures
+    refused_along c.looks.pending.items c.deref.result.now c.in-Refused.status c.deref.ensures.value
+    c.in-Refused.ensures
 
 pub read_behind_part-requires-clause-none : goal.read_behind_part-requires-clause-none
 read_behind_part-requires-clause-none g c =

@@ -7,7 +7,9 @@ use Rattle.kb_machine.proofs.texts.with_version.Goals as goal
 
 pub returns-in-Ok-clause-allowed : goal.returns-in-Ok-clause-allowed
 returns-in-Ok-clause-allowed c =
-    let P : Version → Type 0 = λ version. first_refusal (catalog_rows c.world.inside.catalog version) ≡ None in
-    rw (← c.world.view_is) (subst P c.in_ok-version.ensures (other_rows c.world.inside.catalog c.in_ok-version.version
+    let P : Version → Type 0 = λ version. first_refusal
+    (catalog_rows c.world.inside.catalog version) ≡ None in
+    rw (← c.world.view_is) (subst P c.in_ok-version.ensures
+    (other_rows c.world.inside.catalog c.in_ok-version.version
     (λ early. cc (c.add.ensures.order.1 early, c.in-Ok.is))
     (λ full. cc (c.add.ensures.limit.1 full, c.in-Ok.is))))

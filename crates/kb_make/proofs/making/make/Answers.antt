@@ -11,6 +11,7 @@ returns c =
     let last = machine_of c.send_all.new.lane in
     let P : List Entry → Type 0 = λ commands. Sends first commands last c.in_ok-refused.refused in
     of_value c.summary_text.result (λ text told.
-    summary_made c.args.seed c.args.accounts c.args.months c.in_ok-refused.refused first last c.in_ok-totals.totals
+    summary_made c.args.seed c.args.accounts c.args.months c.in_ok-refused.refused first last
+    c.in_ok-totals.totals
     text.items c.in_ok-lane.ensures.texts (subst P c.new-commands.ensures.commands c.in_ok-refused.ensures)
     c.in_ok-totals.ensures told) c.summary_text.ensures

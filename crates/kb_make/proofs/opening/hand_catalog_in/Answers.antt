@@ -15,5 +15,6 @@ returns-clause-handed c =
     where_ok c.hand_in.result (λ handed. (
       read.0,
       read.1,
-      handed ∙ ap (λ (command : Command). entry_after (machine_of c.args.lane.now) (c.args.today, command)) read.2,
+      handed ∙ ap (λ (command : Command). entry_after (machine_of c.args.lane.now) (c.args.today, command))
+          read.2,
     )) c.hand_in.ensures.handed

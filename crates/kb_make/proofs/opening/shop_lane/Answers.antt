@@ -16,6 +16,7 @@ returns-clause-texts c =
       are_both catalog.0 overdue.0 catalog.1 overdue.1,
       subst P c.first_day-today.ensures
           (handed_in c.first_day-today.result catalog.0 overdue.0 (machine_of c.in_ok-lane.lane)
-          (machine_of c.hand_catalog_in.new.lane) (machine_of c.hand_overdue_in.new.lane) c.in_ok-lane.ensures.empty
+          (machine_of c.hand_catalog_in.new.lane) (machine_of c.hand_overdue_in.new.lane)
+          c.in_ok-lane.ensures.empty
           catalog.2 overdue.2),
     )

@@ -5,8 +5,10 @@ use Rattle.kb_make.proofs.sending.finish.Goals as goal
 
 pub returns-in-Idle : goal.returns-in-Idle
 returns-in-Idle c = record {
-  idle = drained_idle (λ (disk : DiskValue). disk.log.faults) (λ past. None) (λ past. 0) c.args.today c.args.lane.now
+  idle = drained_idle (λ (disk : DiskValue). disk.log.faults) (λ past. None) (λ past. 0) c.args.today
+      c.args.lane.now
       c.drain.new.lane c.in-Idle.ensures.drained;
-  done = drained_done (λ (disk : DiskValue). disk.log.faults) (λ past. None) (λ past. 0) c.args.today c.args.lane.now
+  done = drained_done (λ (disk : DiskValue). disk.log.faults) (λ past. None) (λ past. 0) c.args.today
+      c.args.lane.now
       c.drain.new.lane c.in-Idle.ensures.drained;
 }

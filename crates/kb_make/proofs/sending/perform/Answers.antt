@@ -5,7 +5,8 @@ use Rattle.kb_make.proofs.sending.perform.Goals as goal
 pub returns-clause-sent : goal.returns-clause-sent
 returns-clause-sent c =
     rw c.told_refused.ensures
-    (performed_sent c.args.lane.now c.perform.new.self c.args.today c.args.command.now c.requires.idle c.perform.result
+    (performed_sent c.args.lane.now c.perform.new.self c.args.today c.args.command.now c.requires.idle
+    c.perform.result
     c.perform.ensures.reply c.perform.ensures.taken c.perform.ensures.untaken)
 
 pub returns-clause-refused : goal.returns-clause-refused

@@ -8,7 +8,8 @@ abbrev pub invariant-sent : goal.invariant-sent
 invariant-sent l = record {
   idle : l.lane.outbox ≡ [];
   few : l.refused + length l.generator < 2 ^ 64;
-  completes : Completes (machine_of l.initial.lane) l.initial.generator (machine_of l.lane) l.generator l.refused;
+  completes : Completes (machine_of l.initial.lane) l.initial.generator (machine_of l.lane)
+      l.generator l.refused;
 }
 
 abbrev pub decreases-sent : goal.decreases-sent

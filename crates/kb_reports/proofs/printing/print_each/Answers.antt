@@ -36,7 +36,8 @@ loop-one-preserved g c =
         Appends-trans (g.O.Sink.written c.args.output.now) (g.O.Sink.written c.loop-one.output)
             (g.O.Sink.written c.print_account.new.output) before.0 (say c.one-item.result) before.1
             c.in_ok-print_account.ensures.printed,
-        one_said say c.args.listed.now c.loop-one.one-index c.one-item.result c.loop-one-test.true c.one-item.is
+        one_said say c.args.listed.now c.loop-one.one-index c.one-item.result
+            c.loop-one-test.true c.one-item.is
             before.0 before.2,
       );
       calm = c.in_ok-print_account.ensures.calm ∙ c.loop-one.invariant.calm;

@@ -27,7 +27,8 @@ loop-charges-preserved c =
     let live = map (λ days. days) c.loop-charges.charges.now in
     let due = map stretch_of c.loop-charges.due.now in
     let later : day < next =
-    c.earlier-next.ensures.greatest day c.next_change.ensures.later c.next_change-in-loop-charges.ensures.later in
+    c.earlier-next.ensures.greatest day c.next_change.ensures.later
+    c.next_change-in-loop-charges.ensures.later in
     let first : next ≤ c.next_change.result = c.earlier-next.ensures.first in
     let second : next ≤ c.next_change-in-loop-charges.result = c.earlier-next.ensures.second in
     rw (c.in_ok-push_change.ensures.repairs, c.in_ok-push_change.ensures.bills) (

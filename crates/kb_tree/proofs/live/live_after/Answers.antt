@@ -1,7 +1,8 @@
 -- From one change of the charge, the repair or the bill to the next.
 use Rattle.std.proofs.Common.{◌<◌, ◌≤◌, map, arith}
 use Rattle.kb_days.specs.Calendar.{first_day}
-use Rattle.kb_tree.proofs.WalkedDays.{IsRest-first, IsRest-next, IsRest-value_in, charge_on-first, charge_on-next}
+use Rattle.kb_tree.proofs.WalkedDays.{IsRest-first, IsRest-next, IsRest-value_in, charge_on-first}
+use Rattle.kb_tree.proofs.WalkedDays.{charge_on-next}
 use Rattle.kb_tree.proofs.live.live_after.Goals as goal
 
 pub loop-before-init : goal.loop-before-init

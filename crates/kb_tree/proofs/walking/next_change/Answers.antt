@@ -25,6 +25,7 @@ returns-else-lt-clause-steady g c d low high =
     let here = first-here g.S.Stretched.stretch c.args.rest.now c.in-Some.first.now
     c.in-Some.field-0-1.now c.args.day c.in-Some.ensures.cases.0 c.requires.ahead in
     let begun : c.from.result ≤ c.args.day = search rules in
-    let begins : (g.S.Stretched.stretch c.in-Some.first.now).from ≤ c.args.day = rw (← c.from.ensures) begun in
+    let begins : (g.S.Stretched.stretch c.in-Some.first.now).from ≤ c.args.day =
+    rw (← c.from.ensures) begun in
     let ends : d < (g.S.Stretched.stretch c.in-Some.first.now).to = rw (← c.to.ensures) high in
     here d (omega (arith, low, begins)) ends ∙ sym (here c.args.day begins (omega (arith, low, ends)))

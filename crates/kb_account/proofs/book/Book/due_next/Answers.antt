@@ -9,7 +9,8 @@ use Rattle.kb_account.proofs.book.Book.due_next.Goals as goal
 
 pub returns-in-Some-clause-allowed : goal.returns-in-Some-clause-allowed
 returns-in-Some-clause-allowed c =
-    subst (λ (book : BookValue). first_refusal (rows_of c.args.world.now book c.args.today c.in-Some.command) ≡ None)
+    subst (λ (book : BookValue). first_refusal (rows_of c.args.world.now book c.args.today c.in-Some.command)
+    ≡ None)
     c.self.view_is
     (next_due-accepted c.args.world.now (value_of c.self.inside.state) c.args.today c.in-Some.command
     (sym c.in-Some.ensures))

@@ -30,9 +30,11 @@ returns-clause-moved c =
     (omega (arith, c.number-day.ensures.value, c.number-day.ensures.last)) c.requires.due in
     let key : c.in-Ok.key ≡ auto_key c.args.invoice c.args.today =
     c.in-Ok.ensures ∙ ap (λ number. auto_key number c.args.today) c.number-number.ensures.value in
-    let made : c.in_ok-payments.payments ≡ purchased payments (auto_key c.args.invoice c.args.today) c.args.invoice amount None c.args.today true =
+    let made : c.in_ok-payments.payments ≡ purchased payments (auto_key c.args.invoice c.args.today)
+    c.args.invoice amount None c.args.today true =
     c.in_ok-payments.ensures.purchased
-    ∙ ap (λ (p : PaymentsValue). purchased p c.in-Ok.key c.args.invoice amount None c.args.today true) c.deref.ensures
+    ∙ ap (λ (p : PaymentsValue). purchased p c.in-Ok.key c.args.invoice amount None c.args.today true)
+    c.deref.ensures
     ∙ ap (λ (k : List ℕ). purchased payments k c.args.invoice amount None c.args.today true) key in
     new-moved payments c.in_ok-payments.payments (auto_key c.args.invoice c.args.today)
     (purchase_of c.args.invoice (amount_of amount None) c.args.today true) made fresh refl

@@ -7,4 +7,5 @@ pub with_payments-requires-clause-moved : goal.with_payments-requires-clause-mov
 with_payments-requires-clause-moved c =
     refund-moved (arc_value c.args.self.now.payments) c.in_ok-payments.payments c.args.refund.now.payment
     c.args.refund.now.of c.args.refund.now.amount c.args.today
-    (rw c.deref.ensures at c.in_ok-payments.ensures.accepted) (rw c.deref.ensures at c.in_ok-payments.ensures.refunded)
+    (rw c.deref.ensures at c.in_ok-payments.ensures.accepted)
+    (rw c.deref.ensures at c.in_ok-payments.ensures.refunded)

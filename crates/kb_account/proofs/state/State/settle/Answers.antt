@@ -15,12 +15,14 @@ with_payments-requires-clause-moved c =
     (settle-moved (arc_value c.args.self.now.payments) c.in_ok-payments.payments c.args.settle.now.payment
     c.args.settle.now.status c.invoice_of.result c.in_ok-payments.amount
     (rw c.deref.ensures at c.in_ok-payments.ensures.accepted)
-    (rw c.deref.ensures at c.in_ok-payments.ensures.settled) c.invoice_of.ensures.sound c.invoice_of.ensures.invoice
+    (rw c.deref.ensures at c.in_ok-payments.ensures.settled) c.invoice_of.ensures.sound
+    c.invoice_of.ensures.invoice
     (rw c.deref.ensures at c.in_ok-payments.ensures.moved) c.invoice_of.ensures.amount)
 
 pub with_payments-requires-clause-there : goal.with_payments-requires-clause-there
 with_payments-requires-clause-there c =
     let place = ap (λ (moved : Move). moved.invoice) c.move_on-moved.ensures in
-    let there = invoice-there (length c.args.self.now.invoices.rows) (arc_value c.args.self.now.payments) c.args.settle.now.payment
+    let there = invoice-there (length c.args.self.now.invoices.rows) (arc_value c.args.self.now.payments)
+    c.args.settle.now.payment
     c.requires.sound.invoiced in
     omega (arith, place, there, c.invoice_of.ensures.invoice)

@@ -15,6 +15,7 @@ returns-clause-them g c =
     are_open_in (machine_of c.args.self.now) c.args.account c.in-Some.book.now there
     (subst (λ payments. All (IsOpenKey payments) (open_keys payments)) c.payments.ensures
     (subst (All (IsOpenKey c.payments.result.now)) c.in_ok-keys.ensures.keys c.in_ok-keys.ensures.open))
-    (subst (λ payments. AllPairs (λ (one other : List ℕ). one ≡ other → ⊥) (open_keys payments)) c.payments.ensures
+    (subst (λ payments. AllPairs (λ (one other : List ℕ). one ≡ other → ⊥) (open_keys payments))
+    c.payments.ensures
     (subst (AllPairs (λ (one other : List ℕ). one ≡ other → ⊥)) c.in_ok-keys.ensures.keys
     c.in_ok-keys.ensures.apart))

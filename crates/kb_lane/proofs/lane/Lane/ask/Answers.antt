@@ -1,4 +1,5 @@
-use Rattle.std.proofs.Common.{◌≡◌, refl, sym, ap, subst, ◌∙◌, ◌++◌, ◌∷◌, [], deque_items, drop, map, Some, None, Ok, Err}
+use Rattle.std.proofs.Common.{◌≡◌, refl, sym, ap, subst, ◌∙◌, ◌++◌, ◌∷◌, [], deque_items, drop, map, Some}
+use Rattle.std.proofs.Common.{None, Ok, Err}
 use Rattle.kb_codec.specs.declared.command.Command.TheVariants as kinds
 use Rattle.kb_machine.specs.Histories.{replay}
 use Rattle.kb_machine.specs.Plans.{changed, change_reply}
@@ -9,7 +10,8 @@ use Rattle.kb_lane.specs.Private.Settlements.{IsReadyOf}
 use Rattle.kb_lane.specs.declared.work.Work.TheVariants as works
 use Rattle.kb_lane.specs.Private.Runs.{SettlesNone}
 use Rattle.kb_lane.proofs.Kept.{lane_asked, lane_frees, lane_grows, lane_stays, own_noted}
-use Rattle.kb_lane.proofs.Settling.{chosen_command, unchosen_command, chosen_ready, settled_check, order_asked}
+use Rattle.kb_lane.proofs.Settling.{chosen_command, unchosen_command, chosen_ready, settled_check}
+use Rattle.kb_lane.proofs.Settling.{order_asked}
 use Rattle.kb_lane.proofs.Settling.{settled_frees, failed_history, failed_writes, fault_ready}
 use Rattle.kb_lane.proofs.Written.{appended_stands}
 use Rattle.kb_lane.proofs.lane.Lane.ask.Goals as goal
@@ -20,7 +22,8 @@ invariant_of-self g c =
     c.requires.ordered in
     let front = sym (rw (← c.self.view_is) at c.requires.first) in
     let own = own_noted c.self.inside.own c.note.new.self c.args.account c.args.key c.note.ensures in
-    let kept = lane_asked g.G.Gateway.asked c.self.inside.machine _ c.self.invariant c.args.account c.args.key _ _
+    let kept = lane_asked g.G.Gateway.asked c.self.inside.machine _ c.self.invariant c.args.account
+    c.args.key _ _
     c.ask-answer.new.self _ front c.pop_front.ensures.rest own (rw (← order) c.ask-answer.ensures.asked) in
     kept
 
@@ -29,7 +32,8 @@ returns-in_default-clause-asked g c = rw (← c.self.view_is) (λ later front.
     let is : settled_by c.args.account c.args.key c.ask-answer.result ≡ None
     = unchosen_command (machine_of c.args.self.now) c.args.today
     (settled_by c.args.account c.args.key c.ask-answer.result)
-    (c.in_default.ensures (machine_of c.args.self.now) c.args.today c.args.account c.args.key c.requires.ready) in
+    (c.in_default.ensures (machine_of c.args.self.now) c.args.today c.args.account c.args.key
+    c.requires.ready) in
     let order = order_asked (machine_of c.args.self.now) c.args.account c.args.key c.args.order.now
     c.requires.ordered in
     record {
@@ -51,9 +55,11 @@ pub write-requires : goal.write-requires
 write-requires g c =
     let ready = rw (← c.self.view_is) at (chosen_ready (machine_of c.args.self.now) c.args.today
     (settled_by c.args.account c.args.key c.ask-answer.result) c.in-Some.settlement
-    (c.in-Some.ensures (machine_of c.args.self.now) c.args.today c.args.account c.args.key c.requires.ready)) in
+    (c.in-Some.ensures (machine_of c.args.self.now) c.args.today c.args.account c.args.key
+    c.requires.ready)) in
     record {
-      ready = subst (λ machine. IsReadyOf machine c.args.today c.in-Some.settlement.command c.in-Some.settlement)
+      ready = subst (λ machine. IsReadyOf machine c.args.today c.in-Some.settlement.command
+          c.in-Some.settlement)
           (sym c.self.invariant.replayed) ready;
     }
 
@@ -63,17 +69,21 @@ invariant_of-self-in-Ok g c =
     c.requires.ordered in
     let front = sym (rw (← c.self.view_is) at c.requires.first) in
     let own = own_noted c.self.inside.own c.note.new.self c.args.account c.args.key c.note.ensures in
-    let kept = lane_asked g.G.Gateway.asked c.self.inside.machine _ c.self.invariant c.args.account c.args.key _ _
+    let kept = lane_asked g.G.Gateway.asked c.self.inside.machine _ c.self.invariant c.args.account
+    c.args.key _ _
     c.ask-answer.new.self _ front c.pop_front.ensures.rest own (rw (← order) c.ask-answer.ensures.asked) in
     let is : settled_by c.args.account c.args.key c.ask-answer.result ≡ Some c.in-Some.settlement.command
     = chosen_command (machine_of c.args.self.now) c.args.today
     (settled_by c.args.account c.args.key c.ask-answer.result) c.in-Some.settlement
-    (c.in-Some.ensures (machine_of c.args.self.now) c.args.today c.args.account c.args.key c.requires.ready) in
+    (c.in-Some.ensures (machine_of c.args.self.now) c.args.today c.args.account c.args.key
+    c.requires.ready) in
     let ready = rw (← c.self.view_is) at (chosen_ready (machine_of c.args.self.now) c.args.today
     (settled_by c.args.account c.args.key c.ask-answer.result) c.in-Some.settlement
-    (c.in-Some.ensures (machine_of c.args.self.now) c.args.today c.args.account c.args.key c.requires.ready)) in
+    (c.in-Some.ensures (machine_of c.args.self.now) c.args.today c.args.account c.args.key
+    c.requires.ready)) in
     let change = c.in-Some.settlement.change in
-    lane_grows g.G.Gateway.asked c.self.inside.machine _ c.write.new.log kept c.in-Ok.ensures.same.0 c.args.today
+    lane_grows g.G.Gateway.asked c.self.inside.machine _ c.write.new.log kept
+    c.in-Ok.ensures.same.0 c.args.today
     c.in-Some.settlement.command (change_reply change) (changed (replay c.self.inside.log.history) change) _ _
     ready.planned
     (c.in-Ok.ensures.machine ∙ ap (λ machine. changed machine change) c.self.invariant.replayed) ready.dated.1
@@ -87,7 +97,8 @@ invariant_of-self-in-Ok g c =
     }))) (sym c.pop_front.ensures.rest) (lane_frees g.G.Gateway.asked
     c.self.inside.machine _ c.self.invariant c.args.account c.args.key _ status front)))
     c.in-Ok.ensures.outcome.2
-    (c.push_back_reserved.ensures.items ∙ ap (λ works. deque_items c.pop_front.new.self ++ works) (sym (settled_check c.args.today c.args.account
+    (c.push_back_reserved.ensures.items ∙ ap (λ works. deque_items c.pop_front.new.self ++ works)
+    (sym (settled_check c.args.today c.args.account
     c.args.key c.ask-answer.result c.in-Some.settlement.command is)))
 
 pub invariant_of-self-in-Err : goal.invariant_of-self-in-Err
@@ -96,7 +107,8 @@ invariant_of-self-in-Err g c =
     c.requires.ordered in
     let front = sym (rw (← c.self.view_is) at c.requires.first) in
     let own = own_noted c.self.inside.own c.note.new.self c.args.account c.args.key c.note.ensures in
-    let kept = lane_asked g.G.Gateway.asked c.self.inside.machine _ c.self.invariant c.args.account c.args.key _ _
+    let kept = lane_asked g.G.Gateway.asked c.self.inside.machine _ c.self.invariant c.args.account
+    c.args.key _ _
     c.ask-answer.new.self _ front c.pop_front.ensures.rest own (rw (← order) c.ask-answer.ensures.asked) in
     let same = failed_history g.D.Disk.fault_count c.self.inside.log c.write.new.log
     (c.args.today, c.in-Some.settlement.command) _ c.in-Err.fault c.in-Err.ensures.outcome in
@@ -113,7 +125,8 @@ returns-in-Ok-clause-asked g c = rw (← c.self.view_is) (λ later front.
     let is : settled_by c.args.account c.args.key c.ask-answer.result ≡ Some c.in-Some.settlement.command
     = chosen_command (machine_of c.args.self.now) c.args.today
     (settled_by c.args.account c.args.key c.ask-answer.result) c.in-Some.settlement
-    (c.in-Some.ensures (machine_of c.args.self.now) c.args.today c.args.account c.args.key c.requires.ready) in
+    (c.in-Some.ensures (machine_of c.args.self.now) c.args.today c.args.account c.args.key
+    c.requires.ready) in
     let order = order_asked (machine_of c.args.self.now) c.args.account c.args.key c.args.order.now
     c.requires.ordered in
     record {
@@ -142,7 +155,8 @@ returns-in-Ok-clause-asked g c = rw (← c.self.view_is) (λ later front.
     })
 
 pub returns-in-Ok-clause-moments : goal.returns-in-Ok-clause-moments
-returns-in-Ok-clause-moments g c = rw (← c.self.view_is) (λ entry written. appended_stands g.D.Disk.fault_count
+returns-in-Ok-clause-moments g c = rw (← c.self.view_is)
+    (λ entry written. appended_stands g.D.Disk.fault_count
     c.self.inside.log c.write.new.log (c.args.today, c.in-Some.settlement.command) entry g.D.Disk.honest
     g.D.Disk.moment g.D.Disk.left_since _ _ (Ok c.in-Ok.field-0) refl c.in-Ok.ensures.outcome
     c.in-Ok.ensures.moments written)
@@ -152,7 +166,8 @@ returns-in-Err-clause-asked g c = rw (c.stopped_by.ensures, ← c.self.view_is) 
     let is : settled_by c.args.account c.args.key c.ask-answer.result ≡ Some c.in-Some.settlement.command
     = chosen_command (machine_of c.args.self.now) c.args.today
     (settled_by c.args.account c.args.key c.ask-answer.result) c.in-Some.settlement
-    (c.in-Some.ensures (machine_of c.args.self.now) c.args.today c.args.account c.args.key c.requires.ready) in
+    (c.in-Some.ensures (machine_of c.args.self.now) c.args.today c.args.account c.args.key
+    c.requires.ready) in
     let order = order_asked (machine_of c.args.self.now) c.args.account c.args.key c.args.order.now
     c.requires.ordered in
     record {
@@ -173,7 +188,8 @@ returns-in-Err-clause-asked g c = rw (c.stopped_by.ensures, ← c.self.view_is) 
     })
 
 pub returns-in-Err-clause-moments : goal.returns-in-Err-clause-moments
-returns-in-Err-clause-moments g c = rw (← c.self.view_is) (λ entry written. appended_stands g.D.Disk.fault_count
+returns-in-Err-clause-moments g c = rw (← c.self.view_is)
+    (λ entry written. appended_stands g.D.Disk.fault_count
     c.self.inside.log c.write.new.log (c.args.today, c.in-Some.settlement.command) entry g.D.Disk.honest
     g.D.Disk.moment g.D.Disk.left_since _ _ (Err c.in-Err.fault) refl c.in-Err.ensures.outcome
     c.in-Err.ensures.moments written)

@@ -5,7 +5,8 @@ use Rattle.kb_lane.proofs.Kept.{lane_looked}
 use Rattle.kb_lane.proofs.lane.Lane.look.Goals as goal
 
 pub invariant_of-self : goal.invariant_of-self
-invariant_of-self g c = lane_looked g.G.Gateway.asked c.self.inside.machine _ c.self.invariant c.args.account _ _
+invariant_of-self g c = lane_looked g.G.Gateway.asked c.self.inside.machine _ c.self.invariant
+    c.args.account _ _
     (sym (rw (← c.self.view_is) at c.requires.first)) c.pop_front.ensures.rest
 
 pub invariant_of-self-in-Done : goal.invariant_of-self-in-Done

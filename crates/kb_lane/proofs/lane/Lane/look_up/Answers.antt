@@ -7,7 +7,8 @@ use Rattle.kb_lane.specs.Lanes.{machine_of}
 use Rattle.kb_lane.specs.LookingUp.{news}
 use Rattle.kb_lane.proofs.Asking.{settles_apart}
 use Rattle.kb_lane.proofs.Settling.{writes_from}
-use Rattle.kb_lane.proofs.LookingUp.{open_there, news_differ, looks_looked, done_takes, others_stay, asks_stay}
+use Rattle.kb_lane.proofs.LookingUp.{open_there, news_differ, looks_looked, done_takes, others_stay}
+use Rattle.kb_lane.proofs.LookingUp.{asks_stay}
 use Rattle.kb_lane.proofs.Within.{past_none, within_past}
 use Rattle.kb_lane.proofs.lane.Lane.look_up.Goals as goal
 
@@ -33,13 +34,15 @@ returns-in-Some-clause-looked g c =
     let present = c.status_of-present.ensures found.0 found.1 in
     let told : news found.0.status c.look_up-answer.result ≡ Some c.in-Some.status
     = ap (λ before. news before c.look_up-answer.result) (sym present) ∙ sym c.in-Some.ensures in
-    rw (← c.self.view_is) (looks_looked g.D.Disk.fault_count g.G.Gateway.asked g.G.Gateway.said g.G.Gateway.faults
+    rw (← c.self.view_is) (looks_looked g.D.Disk.fault_count g.G.Gateway.asked g.G.Gateway.said
+    g.G.Gateway.faults
     c.args.today _ c.settle.new.self c.args.payment c.settle.result (record {
       running = sym c.is_stopped.ensures ∙ c.if-is_stopped.false;
       order = c.order_of-order.result;
       ordered = rw (← c.self.view_is) at c.order_of-order.ensures;
       attempt = found.0;
-      there = subst (λ lane. attempt_asked (machine_of lane) c.args.payment ≡ Some found.0) (sym c.self.view_is)
+      there = subst (λ lane. attempt_asked (machine_of lane) c.args.payment ≡ Some found.0)
+          (sym c.self.view_is)
           found.1;
       answer = c.look_up-answer.result;
       heard = rw c.settle.ensures.gateway (record {
@@ -66,7 +69,8 @@ returns-in-Some-clause-others g c =
       gateway = c.look_up-answer.new.self;
       own = map asked_for c.self.inside.own;
     }) c.settle.new.self c.args.today c.args.payment
-    c.in-Some.status (done_takes g.D.Disk.fault_count _ c.settle.new.self _ c.settle.result c.settle.ensures.writes
+    c.in-Some.status (done_takes g.D.Disk.fault_count _ c.settle.new.self _ c.settle.result
+    c.settle.ensures.writes
     done) new one other)
 
 pub returns-in-Some-clause-asks : goal.returns-in-Some-clause-asks
@@ -90,7 +94,8 @@ returns-in-None-clause-looked g c =
       order = c.order_of-order.result;
       ordered = rw (← c.self.view_is) at c.order_of-order.ensures;
       attempt = found.0;
-      there = subst (λ lane. attempt_asked (machine_of lane) c.args.payment ≡ Some found.0) (sym c.self.view_is)
+      there = subst (λ lane. attempt_asked (machine_of lane) c.args.payment ≡ Some found.0)
+          (sym c.self.view_is)
           found.1;
       answer = c.look_up-answer.result;
       heard = (record {
@@ -116,11 +121,14 @@ returns-in-Some-clause-runs g c = c.settle.ensures.runs
 
 pub returns-in-None-clause-past : goal.returns-in-None-clause-past
 returns-in-None-clause-past g c = rw (← c.self.view_is)
-    (λ done. past_none g.D.Disk.honest g.D.Disk.moment g.D.Disk.left_since c.self.inside.log c.self.inside.log refl)
+    (λ done. past_none g.D.Disk.honest g.D.Disk.moment g.D.Disk.left_since c.self.inside.log
+    c.self.inside.log refl)
 
 pub returns-in-None-clause-within : goal.returns-in-None-clause-within
-returns-in-None-clause-within g c = rw (← c.self.view_is) (within_past g.D.Disk.honest g.D.Disk.moment g.D.Disk.left_since
-    c.self.inside.log c.self.inside.log (past_none g.D.Disk.honest g.D.Disk.moment g.D.Disk.left_since c.self.inside.log
+returns-in-None-clause-within g c = rw (← c.self.view_is)
+    (within_past g.D.Disk.honest g.D.Disk.moment g.D.Disk.left_since
+    c.self.inside.log c.self.inside.log (past_none g.D.Disk.honest g.D.Disk.moment g.D.Disk.left_since
+    c.self.inside.log
     c.self.inside.log refl))
 
 pub returns-in-None-clause-further : goal.returns-in-None-clause-further

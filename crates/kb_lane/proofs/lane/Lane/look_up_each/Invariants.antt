@@ -12,7 +12,8 @@ use Rattle.kb_lane.proofs.lane.Lane.look_up_each.Given as goal
 abbrev pub invariant-loop-payment : goal.invariant-loop-payment
 invariant-loop-payment g l =
     ((new : LaneValue g.row.D.Denot g.row.G.Denot) (step : Step)
-    → EachDone (Looked g.D.Disk.fault_count g.G.Gateway.asked g.G.Gateway.said g.G.Gateway.faults l.today) l.self new
+    → EachDone (Looked g.D.Disk.fault_count g.G.Gateway.asked g.G.Gateway.said g.G.Gateway.faults l.today)
+    l.self new
     (drop l.payment-index l.payments) step
     → EachDone (Looked g.D.Disk.fault_count g.G.Gateway.asked g.G.Gateway.said g.G.Gateway.faults l.today)
     l.initial.self new l.payments step)

@@ -13,5 +13,7 @@ invariant_of-self-in-Ok-append g c =
     (rw (← c.self.view_is) at c.requires.planned)
     (c.in-Ok-open.ensures.ok
     ∙ ap (λ machine. with_book machine c.args.opened.account c.args.opened.book) c.self.invariant.replayed)
-    c.in-Ok.ensures.dated.1 c.in-Ok-append.ensures.few (rw (← c.self.view_is) at c.requires.free) c.in-Ok-append.ensures.outcome.2
-    (rw (← c.reserve.ensures.items, ← c.in-Ok-ask_of.ensures, ← c.check_of-check.ensures) c.push_works.ensures)
+    c.in-Ok.ensures.dated.1 c.in-Ok-append.ensures.few (rw (← c.self.view_is) at c.requires.free)
+    c.in-Ok-append.ensures.outcome.2
+    (rw (← c.reserve.ensures.items, ← c.in-Ok-ask_of.ensures, ← c.check_of-check.ensures)
+    c.push_works.ensures)

@@ -10,6 +10,8 @@ order_of-order-requires g c = record {
 }
 
 pub returns-in-Ok-clause-orders : goal.returns-in-Ok-clause-orders
-returns-in-Ok-clause-orders g c = λ later front. asks_orders g.D.Disk.fault_count g.G.Gateway.asked g.G.Gateway.said
-    g.G.Gateway.faults c.args.self.now _ c.args.today c.args.account c.args.key later c.ask.result c.ask.ensures.busy
+returns-in-Ok-clause-orders g c = λ later front. asks_orders g.D.Disk.fault_count g.G.Gateway.asked
+    g.G.Gateway.said
+    g.G.Gateway.faults c.args.self.now _ c.args.today c.args.account c.args.key later c.ask.result
+    c.ask.ensures.busy
     (c.ask.ensures.asked later front)

@@ -1,4 +1,5 @@
-use Rattle.std.proofs.Common.{◌≡◌, ◌≤◌, arith, ℕ, length, map, AllPairs, ◌++◌, List, All, refl, sym, ap, subst, ◌∙◌}
+use Rattle.std.proofs.Common.{◌≡◌, ◌≤◌, arith, ℕ, length, map, AllPairs, ◌++◌, List, All, refl, sym, ap}
+use Rattle.std.proofs.Common.{subst, ◌∙◌}
 use Rattle.std.proofs.lemmas.List.{append-nil}
 use Rattle.std.proofs.lemmas.List.Elements.{All-nil, All-more}
 use Rattle.kb_book.specs.Books.{BookValue}
@@ -12,7 +13,8 @@ use Rattle.kb_lane.proofs.lane.Lane.to_look_up.Goals as goal
 
 pub loop-account-init : goal.loop-account-init
 loop-account-init g c = (
-  ap (λ payments. payments ++ left_each c.args.self.now c.deref-account-items.result.now) c.new-payments.ensures.items,
+  ap (λ payments. payments ++ left_each c.args.self.now c.deref-account-items.result.now)
+      c.new-payments.ensures.items,
   All-nil (AreOpenIn (machine_of c.args.self.now)),
 )
 
@@ -20,9 +22,11 @@ pub loop-account-preserved : goal.loop-account-preserved
 loop-account-preserved g c = (
   each_on (left_in c.args.self.now) (left_each c.args.self.now) (λ account later. refl)
       c.deref-account-items.result.now c.loop-account.account-index c.account-item.result
-      c.loop-account.payments.items _ _ c.loop-account-test.true c.account-item.is c.in_ok-add_open.ensures.added
+      c.loop-account.payments.items _ _ c.loop-account-test.true c.account-item.is
+      c.in_ok-add_open.ensures.added
       c.loop-account.invariant.0,
-  All-more (AreOpenIn (machine_of c.args.self.now)) c.deref-account-items.result.now c.loop-account.account-index
+  All-more (AreOpenIn (machine_of c.args.self.now)) c.deref-account-items.result.now
+      c.loop-account.account-index
       c.account-item.result c.loop-account-test.true c.loop-account.invariant.1
       (subst (AreOpenIn (machine_of c.args.self.now)) c.account-item.is c.in_ok-add_open.ensures.them),
 )

@@ -16,7 +16,8 @@ returns c =
       all = c.in_ok-add-4.ensures.1 ∙ ap (λ (all : List Settlement). all ++ plugin_failure ∷ [])
           (c.in_ok-add-3.ensures.1 ∙ ap (λ (all : List Settlement). all ++ payment_failure ∷ [])
           (c.in_ok-add-2.ensures.1 ∙ ap (λ (all : List Settlement). all ++ pending ∷ [])
-          (c.in_ok-add.ensures.1 ∙ ap (λ (all : List Settlement). all ++ success ∷ []) c.in_ok-each.ensures.items)));
+          (c.in_ok-add.ensures.1 ∙ ap (λ (all : List Settlement). all ++ success ∷ [])
+          c.in_ok-each.ensures.items)));
       to_success = c.in_ok-add.ensures.2;
       to_pending = c.in_ok-add-2.ensures.2;
       to_payment_failure = c.in_ok-add-3.ensures.2;

@@ -1,4 +1,5 @@
-use Rattle.std.proofs.Common.{◌≡◌, ℕ, List, Bool, true, false, refl, sym, ap, ◌∙◌, ◌+◌, [], ◌∷◌, ◌++◌, Result, Ok, Err, IsErrOf}
+use Rattle.std.proofs.Common.{◌≡◌, ℕ, List, Bool, true, false, refl, sym, ap, ◌∙◌, ◌+◌, [], ◌∷◌, ◌++◌, Result}
+use Rattle.std.proofs.Common.{Ok, Err, IsErrOf}
 use Rattle.kb_journal.specs.declared.fault.AppendFault.{AppendFault}
 use Rattle.kb_journal.specs.declared.fault.AppendFault.TheVariants.{Stopped, Full, DiskFault}
 use Rattle.kb_log.specs.Logs.{LogValue}
@@ -21,7 +22,8 @@ invariant_of-self-in-Err-DiskFault g c =
             opened = c.self.inside.opened;
             faults = c.self.inside.faults;
           }) c.append.new.self (c.args.today, c.args.command.now) c.args.bytes.now c.self.invariant.1
-          c.requires.payload runs ((c.append.ensures.stops runs).1 is) c.in-Err-DiskFault.ensures.failed c.append.ensures.same.0
+          c.requires.payload runs ((c.append.ensures.stops runs).1 is) c.in-Err-DiskFault.ensures.failed
+          c.append.ensures.same.0
           c.append.ensures.same.1 c.append.ensures.honesty (c.append.ensures.cause is) c.append.ensures.rising
           c.append.ensures.moments),
     )
@@ -52,12 +54,14 @@ returns-in-Err-DiskFault-clause-outcome g c =
         runs,
         roomy c.self.inside.journal.stopped c.self.inside.journal.count (c.self.inside.journal.gate + 1)
             c.append.result c.append.ensures.full
-            (fault_isnt_full c.append.result c.self.inside.journal.count (c.self.inside.journal.gate + 1) is) runs,
+            (fault_isnt_full c.append.result c.self.inside.journal.count (c.self.inside.journal.gate + 1) is)
+            runs,
       ),
       (c.append.ensures.stops runs).1 is,
       refl,
       c.note-in-Err-DiskFault.ensures
-          ∙ ap (λ failed. failed ++ (c.args.today, c.args.command.now) ∷ []) (c.self.invariant.1.unmarked runs),
+          ∙ ap (λ failed. failed ++ (c.args.today, c.args.command.now) ∷ [])
+          (c.self.invariant.1.unmarked runs),
       c.append.ensures.cause is,
     )
 

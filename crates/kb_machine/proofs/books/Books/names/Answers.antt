@@ -11,5 +11,7 @@ returns-clause-apart c =
     let all : c.loop-name.names.items ≡ keys_of c.args.self.now
     = sym (append-nil c.loop-name.names.items)
     ∙ ap (λ more. c.loop-name.names.items ++ more) (sym c.in-None.ensures.steps.0) ∙ c.loop-name.invariant in
-    subst (AllPairs (λ (one other : List ℕ). one ≡ other → ⊥)) (sym all) (sorted_apart (keys_of c.args.self.now)
-    (subst (λ books. IsStrictlySortedBy by_words (keys_of books)) c.self.view_is c.keys-name-items.ensures.ordered))
+    subst (AllPairs (λ (one other : List ℕ). one ≡ other → ⊥)) (sym all)
+    (sorted_apart (keys_of c.args.self.now)
+    (subst (λ books. IsStrictlySortedBy by_words (keys_of books)) c.self.view_is
+    c.keys-name-items.ensures.ordered))

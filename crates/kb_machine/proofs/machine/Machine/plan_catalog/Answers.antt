@@ -18,5 +18,6 @@ returns-in-Err-clause-refused c =
     let spelled : c.deref.result.now ≡ spelling (kinds.Catalog c.args.text.now) =
     c.deref.ensures.value ∙ c.in_ok-spelling.ensures ∙ ap spelling c.requires.text in
     let P : List ℕ → Type 0 = λ written. IsUnprepared (refusal_in (by_key
-    (find by_words c.args.text.now.key texts.catalogs) written (new_catalog texts c.args.text.now))) c.in-Err.fault in
+    (find by_words c.args.text.now.key texts.catalogs) written (new_catalog texts c.args.text.now)))
+    c.in-Err.fault in
     rw (← c.self.view_is) (subst P spelled (c.in-Err.ensures.refused (new_catalog texts c.args.text.now)))

@@ -18,5 +18,7 @@ returns-in-Err-clause-refused c =
     let spelled : c.deref.result.now ≡ spelling (kinds.OverdueRules c.args.text.now) =
     c.deref.ensures.value ∙ c.in_ok-spelling.ensures ∙ ap spelling c.requires.text in
     let P : List ℕ → Type 0 = λ written. IsUnprepared (refusal_in (by_key
-    (find by_words c.args.text.now.key texts.overdues) written (New (length c.args.text.now.text.states) (with_overdue texts c.args.text.now)))) c.in-Err.fault in
-    rw (← c.self.view_is) (subst P spelled (c.in-Err.ensures.refused (New (length c.args.text.now.text.states) (with_overdue texts c.args.text.now))))
+    (find by_words c.args.text.now.key texts.overdues) written
+    (New (length c.args.text.now.text.states) (with_overdue texts c.args.text.now)))) c.in-Err.fault in
+    rw (← c.self.view_is) (subst P spelled (c.in-Err.ensures.refused
+    (New (length c.args.text.now.text.states) (with_overdue texts c.args.text.now))))

@@ -24,7 +24,8 @@ of-cover : (cover : CoverValue) (live : List (Stretch Charge)) (due : ℕ → _)
     → AreChanges (λ day. values_on day live) due end_of_days repairs bills
     → AreChanges (charges cover) due end_of_days repairs bills
 of-cover cover live due repairs bills same are =
-    subst (λ (live : List (Stretch Charge)). AreChanges (λ day. values_on day live) due end_of_days repairs bills)
+    subst (λ (live : List (Stretch Charge)). AreChanges (λ day. values_on day live) due end_of_days
+    repairs bills)
     same are
 
 -- where there are none the cover is right
@@ -34,7 +35,8 @@ unchanged : (cover : CoverValue) (due : ℕ → _) (first : ℕ) (repairs : List
 unchanged cover due first repairs bills is are none =
     same-after cover due first is
     (subst (λ (repairs : List (Stretch ℕ)). AreChanges (charges cover) due end_of_days repairs []) none.0
-    (subst (λ (bills : List (Stretch Cell)). AreChanges (charges cover) due end_of_days repairs bills) none.1 are))
+    (subst (λ (bills : List (Stretch Cell)). AreChanges (charges cover) due end_of_days repairs bills) none.1
+    are))
 
 pub returns-then-are_none-clause-after : goal.returns-then-are_none-clause-after
 returns-then-are_none-clause-after c =
@@ -43,7 +45,8 @@ returns-then-are_none-clause-after c =
     let are = of-cover cover c.stretches.result.now due c.in_ok-changes.changes.repairs.items
     c.in_ok-changes.changes.bills.items c.stretches.ensures.value c.in_ok-changes.ensures in
     rw c.in_ok-share.ensures (unchanged cover due c.args.first c.in_ok-changes.changes.repairs.items
-    c.in_ok-changes.changes.bills.items c.stretches.ensures.cover are (c.are_none.ensures.0 c.if-are_none.true))
+    c.in_ok-changes.changes.bills.items c.stretches.ensures.cover are
+    (c.are_none.ensures.0 c.if-are_none.true))
 
 -- repairs are in order
 repairs-in_order : (charges : ℕ → List Charge) (due : ℕ → _) (repairs : List (Stretch ℕ))
@@ -75,7 +78,8 @@ live_after-requires-clause-bills c =
 
 -- what is made is the cover made right
 made : (cover : CoverValue) (due : ℕ → _) (first len : ℕ) (repairs : List (Stretch ℕ))
-    (bills : List (Stretch Cell)) (own taken-now : _) (before : List (Stretch Charge)) (taken : List (Stretch ℕ))
+    (bills : List (Stretch Cell)) (own taken-now : _) (before : List (Stretch Charge))
+    (taken : List (Stretch ℕ))
     (added billed live told : List (Stretch Charge)) (cells kept : SharedEntries Cell)
     → AreChanges (charges cover) due end_of_days repairs bills → before ≡ cover.live → kept ≡ cover.cells
     → len ≡ length repairs → taken ≡ repairs → own ≡ bills → billed ≡ billed_from (first + len) own
@@ -83,7 +87,8 @@ made : (cover : CoverValue) (due : ℕ → _) (first len : ℕ) (repairs : List 
     → told ≡ runs same_charge (charge_on before taken added) first_day charged_days
     → taken-now ≡ billed → cells ≡ with_cells kept taken-now
     → ◌≡◌ {A = CoverValue} (record { live = live; cells = cells }) (cover_after cover due first)
-made cover due first len repairs bills own taken-now before taken added billed live told cells kept are stretches
+made cover due first len repairs bills own taken-now before taken added billed live told cells
+    kept are stretches
     entries length-is taken-is own-is billed-is added-is live-is told-is now-is cells-is =
     after-made cover due first (first + len) repairs bills billed live cells are
     (ap (λ (len : ℕ). first + len) length-is)

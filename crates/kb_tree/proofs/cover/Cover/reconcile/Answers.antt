@@ -20,7 +20,8 @@ returns g c =
     let is_new : IsCover new = subst IsCover c.cover.view_is c.cover.invariant in
     let items : c.in_ok-items.items.items ≡ new_items (charges old) due first_day charged_days =
     c.in_ok-items.ensures
-    ∙ ap (λ (repairs : List _). map repair_of repairs ++ map bill_of c.deref-2.result.now) c.deref.ensures.value
+    ∙ ap (λ (repairs : List _). map repair_of repairs ++ map bill_of c.deref-2.result.now)
+    c.deref.ensures.value
     ∙ ap (λ (bills : List _). map repair_of c.in_ok-cover.changes.repairs.items ++ map bill_of bills)
     c.deref-2.ensures.value
     ∙ changes-items (charges old) due c.in_ok-cover.changes.repairs.items c.in_ok-cover.changes.bills.items
@@ -31,7 +32,8 @@ returns g c =
       settled = after-settles old due first is new after;
       untouched = made-untouched old due first is;
       total = made-total old due first is;
-      priced = made-priced old due first is (due_in-inside (map stretch_of c.args.pieces.now) c.requires.pieces.1);
+      priced = made-priced old due first is (due_in-inside (map stretch_of c.args.pieces.now)
+          c.requires.pieces.1);
       above = after-above old due first is new after c.requires.above;
       steps = refl;
     })
