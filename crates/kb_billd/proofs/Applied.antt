@@ -1,5 +1,7 @@
 -- A run over lines of lanes that were opened and are given back.
-use Rattle.std.proofs.Common.{◌≡◌, ℕ, zero, suc, ◌<◌, ◌≤◌, Bool, true, false, true≢false, IsTrue, List, [], ◌∷◌, length, Option, None, Some, IfSome, Result, Ok, Err, inl, inr, arith, refl, sym, ap, subst, ◌∙◌}
+use Rattle.std.proofs.Common.{◌≡◌, ℕ, zero, suc, ◌<◌, ◌≤◌, Bool, true, false, true≢false, IsTrue, List, []}
+use Rattle.std.proofs.Common.{◌∷◌, length, Option, None, Some, IfSome, Result, Ok, Err, inl, inr, arith, refl}
+use Rattle.std.proofs.Common.{sym, ap, subst, ◌∙◌}
 use Rattle.std.specs.List.{slice_get, list_any}
 use Rattle.kb_base.specs.Faults.{Rose}
 use Rattle.kb_disk.specs.Images.{Only}
@@ -19,7 +21,7 @@ use Rattle.kb_apply.specs.Continuing.{Continues, ContinueAll}
 use Rattle.kb_apply.specs.LaneRuns.{LanesValue, Outside, outside_of, lanes_machine}
 use Rattle.kb_apply.proofs.Continuing.{done_continues, stopped_continues}
 use Rattle.kb_opening.specs.Folders.{VaultTold, DiskWords, words_of}
-use Rattle.kb_opening.specs.Openings.{AreOpened, IsOpened}
+use Rattle.kb_opening.specs.Openings.{AreOpened, AreServed, IsOpened}
 use Rattle.kb_opening.proofs.Closing.{as_out_as_before, others_as_before}
 use Rattle.kb_billd.specs.Runs.{IsSoundLane, RunsLanes}
 use Rattle.kb_billd.specs.Private.OpenRuns.{RunsOpen}
@@ -84,10 +86,12 @@ module _ {D G C : Type 0} (outside : Outside D G C) (begun : LanesValue D G C)
       → length last.lanes ≡ length begun.lanes
   as_many last outcome ran = (further last outcome ran).count
 
-module _ {D G C : Type 0} (honest : D → Bool) (seen : D → List ℕ) (images : D → List ℕ → Type 0) (moment : D → ℕ)
+module _ {D G C : Type 0} (honest : D → Bool) (seen : D → List ℕ) (images : D → List ℕ → Type 0)
+    (moment : D → ℕ)
     (left_since : D → ℕ → List ℕ → Type 0) (fault_count : D → ℕ) (asked : G → Option (List Asked))
     (said : G → Option (List Saying)) (faults : G → ℕ) (day : C → Option ℕ) (folder : List ℕ) (clock : C)
-    (old mid new : VaultTold) (left left_after written written_after : Known) (first : List (LaneValue D G)) where
+    (old mid new : VaultTold) (left left_after written written_after : Known)
+    (first : List (LaneValue D G)) where
   abbrev words : DiskWords D
   words = words_of honest seen images fault_count
 
@@ -97,62 +101,70 @@ module _ {D G C : Type 0} (honest : D → Bool) (seen : D → List ℕ) (images 
   abbrev begun : LanesValue D G C
   begun = record { lanes = first; clock = clock; full = false }
 
-  module _ (opened : AreOpened words folder (length first) old mid first) (outcome : Result (Unit {0}) ApplyStop)
-      (run : RunsOpen words outside folder first clock mid new left left_after written written_after outcome) where
-    on : ContinueAll (Continues honest moment left_since fault_count) first run.last.lanes
-    on = further outside begun left left_after written written_after run.last outcome run.ran
+  module _ (opened : AreOpened words folder (length first) old mid first)
+      (outcome : Result (Unit {0}) ApplyStop)
+      (run : RunsOpen words outside folder first clock mid new left left_after written written_after outcome)
+    where
+      on : ContinueAll (Continues honest moment left_since fault_count) first run.last.lanes
+      on = further outside begun left left_after written written_after run.last outcome run.ran
 
-    -- a lane's disk is honest if it was when it was opened
-    stays_honest : (place : ℕ) (lane : LaneValue D G) → slice_get run.last.lanes place ≡ Some lane
-        → ((one : LaneValue D G) → slice_get first place ≡ Some one → IsTrue (honest one.log.journal.disk))
-        → IsTrue (honest lane.log.journal.disk)
-    stays_honest place lane is was =
-        let one = found_beside run.last.lanes first place lane is on.count in
-        let next = on.each place one.0 one.1 in
-        let same : next.0 ≡ lane = by_some next.0 (sym next.1 ∙ is) in
-        subst (λ lane. IsTrue (honest lane.log.journal.disk)) same
-        (subst IsTrue (sym next.2.itself.as_honest) (was one.0 one.1))
-      where
-        by_some : (next : LaneValue D G) → Some next ≡ Some lane → next ≡ lane
-        by_some next same = cc
+      -- a lane's disk is honest if it was when it was opened
+      stays_honest : (place : ℕ) (lane : LaneValue D G) → slice_get run.last.lanes place ≡ Some lane
+          → ((one : LaneValue D G) → slice_get first place ≡ Some one → IsTrue (honest one.log.journal.disk))
+          → IsTrue (honest lane.log.journal.disk)
+      stays_honest place lane is was =
+          let one = found_beside run.last.lanes first place lane is on.count in
+          let next = on.each place one.0 one.1 in
+          let same : next.0 ≡ lane = by_some next.0 (sym next.1 ∙ is) in
+          subst (λ lane. IsTrue (honest lane.log.journal.disk)) same
+          (subst IsTrue (sym next.2.itself.as_honest) (was one.0 one.1))
+        where
+          by_some : (next : LaneValue D G) → Some next ≡ Some lane → next ≡ lane
+          by_some next same = cc
 
-    stands : (place : ℕ) (lane : LaneValue D G) → slice_get run.last.lanes place ≡ Some lane → (told : Option (List ℕ))
-        → old.lane_bytes folder place ≡ told
-        → IfSome told (λ before. IfSome (new.lane_bytes folder place) (StandsForLog lane.log))
-    stands place lane is None told = tt
-    stands place lane is (Some before) told = run.back.stand place lane is (stays_honest place lane is
-        (λ one there. (subst (λ bytes. IfSome bytes (Opens honest seen images one.log.journal.disk)) told
-        (opened.each place one there).bytes).true_to_them))
+      stands : (place : ℕ) (lane : LaneValue D G) → slice_get run.last.lanes place ≡ Some lane
+          → (told : Option (List ℕ))
+          → old.lane_bytes folder place ≡ told
+          → IfSome told (λ before. IfSome (new.lane_bytes folder place) (StandsForLog lane.log))
+      stands place lane is None told = tt
+      stands place lane is (Some before) told = run.back.stand place lane is (stays_honest place lane is
+          (λ one there. (subst (λ bytes. IfSome bytes (Opens honest seen images one.log.journal.disk)) told
+          (opened.each place one there).bytes).true_to_them))
 
-    -- the disk failed: the vault's count rose
-    disk_rose : outcome ≡ Err applied.Disk → Rose old.faults new.faults
-    disk_rose is = rw (← opened.calm) (rose (subst (Applies (lanes_machine outside) begun left left_after written
-        written_after run.last) is run.ran).1)
-      where
-        rose : any_stopped run.last.lanes ≡ true → Rose mid.faults new.faults
-        rose any = let found = stopped_at run.last.lanes any in
-            run.back.stopped found.0 found.1 found.2 found.3
+      -- the disk failed: the vault's count rose
+      disk_rose : outcome ≡ Err applied.Disk → Rose old.faults new.faults
+      disk_rose is = rw (← opened.calm) (rose (subst (Applies (lanes_machine outside) begun left
+          left_after written
+          written_after run.last) is run.ran).1)
+        where
+          rose : any_stopped run.last.lanes ≡ true → Rose mid.faults new.faults
+          rose any = let found = stopped_at run.last.lanes any in
+              run.back.stopped found.0 found.1 found.2 found.3
 
-    pub runs_lanes : 1 ≤ length first → length first ≤ 64 → ((lane : ℕ) → old.is_out folder lane ≡ false)
-        → RunsLanes words outside folder clock old new left left_after written written_after outcome
-    runs_lanes some few inside = record {
-      first = first;
-      last = run.last;
-      some = some;
-      few = few;
-      opened = opened.each;
-      ran = run.ran;
-      further = on;
-      sound = λ place lane is. record {
-        billed = replays_are_billed_now lane.log.history;
-        even = replays_are_even_now lane.log.history;
-        once = run.once place lane is;
-      };
-      stands = λ place lane is. stands place lane is (old.lane_bytes folder place) refl;
-      counted = disk_rose;
-      inside = as_out_as_before words folder (length first) old mid new first run.last.lanes opened run.back on.count
-          inside;
-      others = λ this_folder this there. others_as_before words folder (length first) old mid new first run.last.lanes
-          opened run.back on.count this_folder this (rw on.count there);
-      files = λ name. run.back.files name ∙ opened.files name;
-    }
+      pub runs_lanes : (serves : G → ℕ → Type 0) → AreServed serves first → 1 ≤ length first → length first ≤ 64
+          → ((lane : ℕ) → old.is_out folder lane ≡ false)
+          → RunsLanes words outside serves folder clock old new left left_after written written_after outcome
+      runs_lanes serves served some few inside = record {
+        first = first;
+        last = run.last;
+        some = some;
+        few = few;
+        opened = opened.each;
+        served = served;
+        ran = run.ran;
+        further = on;
+        sound = λ place lane is. record {
+          billed = replays_are_billed_now lane.log.history;
+          even = replays_are_even_now lane.log.history;
+          once = run.once place lane is;
+        };
+        stands = λ place lane is. stands place lane is (old.lane_bytes folder place) refl;
+        counted = disk_rose;
+        inside = as_out_as_before words folder (length first) old mid new first run.last.lanes opened
+            run.back on.count
+            inside;
+        others = λ this_folder this there. others_as_before words folder (length first) old mid new first
+            run.last.lanes
+            opened run.back on.count this_folder this (rw on.count there);
+        files = λ name. run.back.files name ∙ opened.files name;
+      }

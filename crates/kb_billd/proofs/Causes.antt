@@ -1,5 +1,6 @@
 -- What a run of the program leaves, whatever its words are.
-use Rattle.std.proofs.Common.{◌≡◌, ℕ, ◌⊎◌, inl, inr, arith, List, Option, None, Some, Result, Ok, Err, refl, sym, subst, ◌∙◌}
+use Rattle.std.proofs.Common.{◌≡◌, ℕ, ◌⊎◌, ⊤, inl, inr, arith, List, Option, None, Some, Result, Ok, Err}
+use Rattle.std.proofs.Common.{refl, sym, subst, ◌∙◌}
 use Rattle.kb_base.specs.Faults.{Rose}
 use Rattle.kb_vault.specs.Places.{SameLanes}
 use Rattle.kb_lines.specs.Reading.{Known}
@@ -37,7 +38,8 @@ unopened_disk folder old new market market_after (unopened.Journal lane at) same
 unopened_disk folder old new market market_after unopened.Market same cause = absurd (cc)
 
 unopened_market : (folder : List ℕ) (old new : VaultTold) (market market_after : ℕ) (fault : Unopened)
-    → stopped (stop_of_unopened fault) ≡ stopped stops.Market → IsCause folder old new market market_after fault
+    → stopped (stop_of_unopened fault) ≡ stopped stops.Market
+    → IsCause folder old new market market_after fault
     → Rose market market_after
 unopened_market folder old new market market_after unopened.Disk same cause = absurd (cc)
 unopened_market folder old new market market_after unopened.NoMemory same cause = absurd (cc)
@@ -48,16 +50,17 @@ unopened_market folder old new market market_after unopened.Market same cause = 
 nobody : Rose 0 0 → ⊥
 nobody rose = absurd (omega (arith, rose (omega arith)))
 
-module _ {D G C : Type 0} (disks : DiskWords D) (outside : Outside D G C) (folder : List ℕ) (clock : C)
-    (old new : VaultTold) (market market_after : ℕ) (left left_after written written_after : Known)
+module _ {D G C : Type 0} (disks : DiskWords D) (outside : Outside D G C) (serves : G → ℕ → Type 0)
+    (folder : List ℕ) (clock : C) (old new : VaultTold) (market market_after : ℕ)
+    (left left_after written written_after : Known)
     (outcome : Result (Unit {0}) Stop) where
-  applied_inside : AppliesFolder disks outside folder clock old new market market_after left left_after written
-      written_after outcome → SameLanes new.is_out old.is_out
+  applied_inside : AppliesFolder disks outside serves folder clock old new market market_after left left_after
+      written written_after outcome → SameLanes new.is_out old.is_out
   applied_inside (inl (fault, told, leaves)) = leaves.same.out
   applied_inside (inr (run, told, same, runs)) = runs.inside
 
-  applied_disk : AppliesFolder disks outside folder clock old new market market_after left left_after written
-      written_after outcome → outcome ≡ Err stops.Disk → Rose old.faults new.faults
+  applied_disk : AppliesFolder disks outside serves folder clock old new market market_after left left_after
+      written written_after outcome → outcome ≡ Err stops.Disk → Rose old.faults new.faults
   applied_disk (inl (fault, told, leaves)) is =
       unopened_disk folder old new market market_after fault (sym told ∙ is) leaves.cause
   applied_disk (inr (run, told, same, runs)) is = runs.counted (by_run run (sym told ∙ is))
@@ -68,13 +71,14 @@ module _ {D G C : Type 0} (disks : DiskWords D) (outside : Outside D G C) (folde
       by_run (Err applied.Full) same = absurd (cc)
       by_run (Err (applied.Run stop)) same = absurd (cc)
 
-  applied_market : AppliesFolder disks outside folder clock old new market market_after left left_after written
-      written_after outcome → outcome ≡ Err stops.Market → Rose market market_after
+  applied_market : AppliesFolder disks outside serves folder clock old new market market_after left left_after
+      written written_after outcome → outcome ≡ Err stops.Market → Rose market market_after
   applied_market (inl (fault, told, leaves)) is =
       unopened_market folder old new market market_after fault (sym told ∙ is) leaves.cause
   applied_market (inr (run, told, same, runs)) is = by_run run (sym told ∙ is)
     where
-      by_run : (run : Result (Unit {0}) ApplyStop) → outcome_of run ≡ Err stops.Market → Rose market market_after
+      by_run : (run : Result (Unit {0}) ApplyStop) → outcome_of run ≡ Err stops.Market
+          → Rose market market_after
       by_run (Ok done) same = absurd (cc)
       by_run (Err applied.Disk) same = absurd (cc)
       by_run (Err applied.Full) same = absurd (cc)
@@ -82,13 +86,16 @@ module _ {D G C : Type 0} (disks : DiskWords D) (outside : Outside D G C) (folde
 
 module _ {D : Type 0} (disks : DiskWords D) (folder : List ℕ) (said : Said) (old new : VaultTold)
     (written written_after : Known) (outcome : Result (Unit {0}) Stop) where
-  reported_inside : ReportsFolder disks folder said old new written written_after outcome → SameLanes new.is_out old.is_out
+  reported_inside : ReportsFolder disks folder said old new written written_after outcome
+      → SameLanes new.is_out old.is_out
   reported_inside (inl (fault, told, nothing)) = nothing.same.out
   reported_inside (inr (printed, told, reports)) = reports.same.out
 
-  reported_disk : ReportsFolder disks folder said old new written written_after outcome → outcome ≡ Err stops.Disk
+  reported_disk : ReportsFolder disks folder said old new written written_after outcome
+      → outcome ≡ Err stops.Disk
       → Rose old.faults new.faults
-  reported_disk (inl (fault, told, nothing)) is = unopened_disk folder old new 0 0 fault (sym told ∙ is) nothing.cause
+  reported_disk (inl (fault, told, nothing)) is = unopened_disk folder old new 0 0 fault
+      (sym told ∙ is) nothing.cause
   reported_disk (inr (printed, told, reports)) is = by_print printed (sym told ∙ is)
     where
       by_print : (printed : Result (Unit {0}) Unprinted) → outcome_of_printing printed ≡ Err stops.Disk
@@ -97,7 +104,8 @@ module _ {D : Type 0} (disks : DiskWords D) (folder : List ℕ) (said : Said) (o
       by_print (Err unprinted.Output) same = absurd (cc)
       by_print (Err unprinted.NoMemory) same = absurd (cc)
 
-  reported_no_market : ReportsFolder disks folder said old new written written_after outcome → outcome ≡ Err stops.Market
+  reported_no_market : ReportsFolder disks folder said old new written written_after outcome
+      → outcome ≡ Err stops.Market
       → ⊥
   reported_no_market (inl (fault, told, nothing)) is =
       nobody (unopened_market folder old new 0 0 fault (sym told ∙ is) nothing.cause)
@@ -108,18 +116,20 @@ module _ {D : Type 0} (disks : DiskWords D) (folder : List ℕ) (said : Said) (o
       by_print (Err unprinted.Output) same = absurd (cc)
       by_print (Err unprinted.NoMemory) same = absurd (cc)
 
-module _ {D G N C : Type 0} (disks : DiskWords D) (outside : Outside D G C) (alone : Outside D N C) (clock : C)
-    (old new : Around) (outcome : Result (Unit {0}) Stop) where
+module _ {D G N C : Type 0} (disks : DiskWords D) (outside : Outside D G C) (alone : Outside D N C)
+    (serves : G → List ℕ → ℕ → Type 0) (clock : C) (old new : Around) (outcome : Result (Unit {0}) Stop) where
   by-inside : (folder : List ℕ) (gateway : Option (List ℕ))
-      → AppliesBy disks outside alone folder clock old new outcome gateway
+      → AppliesBy disks outside alone serves folder clock old new outcome gateway
       → SameLanes new.vault.is_out old.vault.is_out
-  by-inside folder (Some name) applies = applied_inside disks outside folder clock old.vault new.vault old.market
+  by-inside folder (Some name) applies = applied_inside disks outside
+      (λ gateway place. serves gateway name place) folder clock old.vault new.vault old.market
       new.market old.left new.left old.written new.written outcome applies
-  by-inside folder None applies = applied_inside disks alone folder clock old.vault new.vault 0 0 old.left new.left
+  by-inside folder None applies = applied_inside disks alone
+      (λ gateway place. ⊤) folder clock old.vault new.vault 0 0 old.left new.left
       old.written new.written outcome applies.1
 
   -- the lanes that were out are out
-  does-inside : (given : Option Words) → Does disks outside alone clock old new outcome given
+  does-inside : (given : Option Words) → Does disks outside alone serves clock old new outcome given
       → SameLanes new.vault.is_out old.vault.is_out
   does-inside None does = does.1.inside
   does-inside (Some (words.Init init)) does = does.founded.inside
@@ -131,24 +141,28 @@ module _ {D G N C : Type 0} (disks : DiskWords D) (outside : Outside D G C) (alo
       new.written outcome does.reported
   does-inside (Some (words.Make make)) does = does.untouched.inside
 
-  pub begins_inside : (given : Option Words) → Begins disks outside alone clock old new outcome given
+  pub begins_inside : (given : Option Words) → Begins disks outside alone serves clock old new outcome given
       → SameLanes new.vault.is_out old.vault.is_out
   begins_inside given (inl does) = does-inside given does
   begins_inside given (inr memory) = memory.1.inside
 
   by-disk : (folder : List ℕ) (gateway : Option (List ℕ))
-      → AppliesBy disks outside alone folder clock old new outcome gateway → outcome ≡ Err stops.Disk
+      → AppliesBy disks outside alone serves folder clock old new outcome gateway → outcome ≡ Err stops.Disk
       → Rose old.vault.faults new.vault.faults
-  by-disk folder (Some name) applies = applied_disk disks outside folder clock old.vault new.vault old.market
+  by-disk folder (Some name) applies = applied_disk disks outside
+      (λ gateway place. serves gateway name place) folder clock old.vault new.vault old.market
       new.market old.left new.left old.written new.written outcome applies
-  by-disk folder None applies = applied_disk disks alone folder clock old.vault new.vault 0 0 old.left new.left
+  by-disk folder None applies = applied_disk disks alone
+      (λ gateway place. ⊤) folder clock old.vault new.vault 0 0 old.left new.left
       old.written new.written outcome applies.1
 
-  other : (stop : Stop) → outcome ≡ stopped stops.Words → outcome ≡ stopped stop → stopped stops.Words ≡ stopped stop
+  other : (stop : Stop) → outcome ≡ stopped stops.Words → outcome ≡ stopped stop
+      → stopped stops.Words ≡ stopped stop
   other stop words is = sym words ∙ is
 
   -- a disk that failed is counted
-  does-disk : (given : Option Words) → Does disks outside alone clock old new outcome given → outcome ≡ Err stops.Disk
+  does-disk : (given : Option Words) → Does disks outside alone serves clock old new outcome given
+      → outcome ≡ Err stops.Disk
       → Rose old.vault.faults new.vault.faults
   does-disk None does is = let same = other stops.Disk does.0 is in absurd (cc)
   does-disk (Some (words.Init init)) does is =
@@ -159,23 +173,26 @@ module _ {D G N C : Type 0} (disks : DiskWords D) (outside : Outside D G C) (alo
   does-disk (Some (words.Report report)) does is =
       reported_disk disks report.dir (said_by report.kind report.day) old.vault new.vault old.written
       new.written outcome does.reported is
-  does-disk (Some (words.Make make)) does is = absurd (subst (MakesBy make old.written new.written) is does.made)
+  does-disk (Some (words.Make make)) does is = absurd (subst
+      (MakesBy make old.written new.written) is does.made)
 
-  pub begins_disk : (given : Option Words) → Begins disks outside alone clock old new outcome given
+  pub begins_disk : (given : Option Words) → Begins disks outside alone serves clock old new outcome given
       → outcome ≡ Err stops.Disk → Rose old.vault.faults new.vault.faults
   begins_disk given (inl does) is = does-disk given does is
   begins_disk given (inr memory) is = let same = sym memory.0 ∙ is in absurd (cc)
 
   by-market : (folder : List ℕ) (gateway : Option (List ℕ))
-      → AppliesBy disks outside alone folder clock old new outcome gateway → outcome ≡ Err stops.Market
+      → AppliesBy disks outside alone serves folder clock old new outcome gateway → outcome ≡ Err stops.Market
       → Rose old.market new.market
-  by-market folder (Some name) applies is = applied_market disks outside folder clock old.vault new.vault old.market
+  by-market folder (Some name) applies is = applied_market disks outside
+      (λ gateway place. serves gateway name place) folder clock old.vault new.vault old.market
       new.market old.left new.left old.written new.written outcome applies is
-  by-market folder None applies is = absurd (nobody (applied_market disks alone folder clock old.vault new.vault 0 0
+  by-market folder None applies is = absurd (nobody (applied_market disks alone
+      (λ gateway place. ⊤) folder clock old.vault new.vault 0 0
       old.left new.left old.written new.written outcome applies.1 is))
 
   -- a market that failed is counted
-  does-market : (given : Option Words) → Does disks outside alone clock old new outcome given
+  does-market : (given : Option Words) → Does disks outside alone serves clock old new outcome given
       → outcome ≡ Err stops.Market → Rose old.market new.market
   does-market None does is = let same = other stops.Market does.0 is in absurd (cc)
   does-market (Some (words.Init init)) does is =
@@ -184,11 +201,13 @@ module _ {D G N C : Type 0} (disks : DiskWords D) (outside : Outside D G C) (alo
   does-market (Some (words.Bill bill)) does is = let same = other stops.Market does.0 is in absurd (cc)
   does-market (Some (words.Serve serve)) does is = let same = other stops.Market does.0 is in absurd (cc)
   does-market (Some (words.Report report)) does is =
-      absurd (reported_no_market disks report.dir (said_by report.kind report.day) old.vault new.vault old.written
+      absurd (reported_no_market disks report.dir (said_by report.kind report.day) old.vault
+      new.vault old.written
       new.written outcome does.reported is)
-  does-market (Some (words.Make make)) does is = absurd (subst (MakesBy make old.written new.written) is does.made)
+  does-market (Some (words.Make make)) does is = absurd
+      (subst (MakesBy make old.written new.written) is does.made)
 
-  pub begins_market : (given : Option Words) → Begins disks outside alone clock old new outcome given
+  pub begins_market : (given : Option Words) → Begins disks outside alone serves clock old new outcome given
       → outcome ≡ Err stops.Market → Rose old.market new.market
   begins_market given (inl does) is = does-market given does is
   begins_market given (inr memory) is = let same = sym memory.0 ∙ is in absurd (cc)

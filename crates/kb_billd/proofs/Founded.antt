@@ -21,7 +21,8 @@ module _ (today : ℕ) (init : Init) (old new : VaultTold) where
       → ((fault : TextFault) → ended ≡ Err (unfounded.Text fault) → SameLanes new.lane_bytes old.lane_bytes)
       → ((lane : ℕ) → ended ≡ Err (unfounded.NotEmpty lane) → (lane < init.lanes)
       × IsLeft (old.lane_bytes init.dir lane) (new.lane_bytes init.dir lane))
-      → ((lane : ℕ) → ended ≡ Err (unfounded.NotEmpty lane) → FoundsWith today init.dir init.lanes lane (lane + 1)
+      → ((lane : ℕ) → ended ≡ Err (unfounded.NotEmpty lane)
+      → FoundsWith today init.dir init.lanes lane (lane + 1)
       (old.file_bytes init.catalog) (old.file_bytes init.overdue) old.lane_bytes new.lane_bytes)
       → Made today init old new ended
   made_by (Ok done) founded untouched not_empty before = founded
@@ -60,7 +61,8 @@ module _ (today : ℕ) (init : Init) (old new : VaultTold) where
       → outcome ≡ Err (stops.Run runs.Input) → ⊥
   founding_no_input outcome founds is = by_end founds.ended (sym founds.told ∙ is)
     where
-      by_end : (ended : Result (Unit {0}) Unfounded) → outcome_of_founding ended ≡ Err (stops.Run runs.Input) → ⊥
+      by_end : (ended : Result (Unit {0}) Unfounded) → outcome_of_founding ended ≡ Err (stops.Run runs.Input)
+          → ⊥
       by_end (Ok done) same = absurd (cc)
       by_end (Err unfounded.Disk) same = absurd (cc)
       by_end (Err unfounded.NoMemory) same = absurd (cc)
@@ -71,7 +73,8 @@ module _ (today : ℕ) (init : Init) (old new : VaultTold) where
       → outcome ≡ Err (stops.Run runs.Output) → ⊥
   founding_no_output outcome founds is = by_end founds.ended (sym founds.told ∙ is)
     where
-      by_end : (ended : Result (Unit {0}) Unfounded) → outcome_of_founding ended ≡ Err (stops.Run runs.Output) → ⊥
+      by_end : (ended : Result (Unit {0}) Unfounded) → outcome_of_founding ended ≡ Err (stops.Run runs.Output)
+          → ⊥
       by_end (Ok done) same = absurd (cc)
       by_end (Err unfounded.Disk) same = absurd (cc)
       by_end (Err unfounded.NoMemory) same = absurd (cc)

@@ -37,19 +37,22 @@ printing_output (Ok done) is = absurd (cc)
 printing_output (Err unprinted.Output) is = refl
 printing_output (Err unprinted.NoMemory) is = absurd (cc)
 
-pub reports_lanes : {D : Type 0} (words : DiskWords D) (folder : List ℕ) (said : Said) (old mid new : VaultTold)
-    (written written_after : Known) (printed : Result (Unit {0}) Unprinted) (lanes : List (LaneValue D NoGateway))
+pub reports_lanes : {D : Type 0} (words : DiskWords D) (folder : List ℕ) (said : Said)
+    (old mid new : VaultTold)
+    (written written_after : Known) (printed : Result (Unit {0}) Unprinted)
+    (lanes : List (LaneValue D NoGateway))
     → 1 ≤ length lanes → length lanes ≤ 64 → AreOpened words folder (length lanes) old mid lanes
     → ((lane : ℕ) → old.is_out folder lane ≡ false)
     → PrintsBy said (map machine_of lanes) written written_after printed
     → AreBack words folder mid new lanes
     → ReportsLanes words folder said old new written written_after printed
-reports_lanes words folder said old mid new written written_after printed lanes some few opened inside prints back = record {
-  lanes = lanes;
-  some = some;
-  few = few;
-  opened = opened.each;
-  prints = prints;
-  same = unchanged words folder (length lanes) old mid new lanes opened back few inside;
-  calm = uncounted words folder (length lanes) old mid new lanes opened back;
-}
+reports_lanes words folder said old mid new written written_after printed lanes some few opened inside prints
+    back = record {
+      lanes = lanes;
+      some = some;
+      few = few;
+      opened = opened.each;
+      prints = prints;
+      same = unchanged words folder (length lanes) old mid new lanes opened back few inside;
+      calm = uncounted words folder (length lanes) old mid new lanes opened back;
+    }

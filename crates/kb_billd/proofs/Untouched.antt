@@ -1,5 +1,6 @@
 -- What is done by words, put together.
-use Rattle.std.proofs.Common.{◌≡◌, ◌≤◌, ◌⊎◌, ℕ, List, Option, None, Some, Result, Ok, Err, arith, inl, inr, refl, sym, subst}
+use Rattle.std.proofs.Common.{◌≡◌, ◌≤◌, ◌⊎◌, ℕ, List, Option, None, Some, Result, Ok, Err, arith, inl, inr}
+use Rattle.std.proofs.Common.{refl, sym, subst}
 use Rattle.std.specs.Io.KnownBytes.{Keeps}
 use Rattle.kb_base.specs.Faults.{Rose}
 use Rattle.kb_lines.specs.Reading.{Known}
@@ -32,7 +33,8 @@ untouched around = record {
 
 -- lanes are made, and nothing is read or written for that
 pub founds : (told : Option ℕ) (init : Init) (left written : Known) (old new : VaultTold) (market : ℕ)
-    (outcome : Result (Unit {0}) Stop) (today : ℕ) → IsToday told today → FoundsFolder today init old new outcome
+    (outcome : Result (Unit {0}) Stop) (today : ℕ) → IsToday told today
+    → FoundsFolder today init old new outcome
     → Founds told init (around_of left written old market) (around_of left written new market) outcome
 founds told init left written old new market outcome today day founded = record {
   today = today;
@@ -47,7 +49,8 @@ founds told init left written old new market outcome today day founded = record 
 pub reports : {D : Type 0} (disks : DiskWords D) (report : Report) (left written written_after : Known)
     (old new : VaultTold) (market : ℕ) (outcome : Result (Unit {0}) Stop)
     → ReportsFolder disks report.dir (said_by report.kind report.day) old new written written_after outcome
-    → Reports disks report (around_of left written old market) (around_of left written_after new market) outcome
+    → Reports disks report (around_of left written old market)
+    (around_of left written_after new market) outcome
 reports disks report left written written_after old new market outcome reported = record {
   reported = reported;
   unread = keeps left;

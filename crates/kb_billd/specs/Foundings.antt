@@ -37,7 +37,8 @@ Made today init old new (Err unfounded.NoMemory) = ⊤
 
 -- What it leaves, by how it ends: a text that is refused is told; faults are counted; and all else in the
 -- vault stays.
-pub record FoundsFolder (today : ℕ) (init : Init) (old new : VaultTold) (outcome : Result (Unit {0}) Stop) : Type 0 where
+pub record FoundsFolder (today : ℕ) (init : Init) (old new : VaultTold)
+    (outcome : Result (Unit {0}) Stop) : Type 0 where
   pub ended : Result (Unit {0}) Unfounded
   pub told : outcome ≡ outcome_of_founding ended
   pub made : Made today init old new ended

@@ -41,7 +41,8 @@ PrintsBy said lanes written written_after (Err fault) = PrintsPart said lanes wr
 
 -- The lanes of a folder are opened, each with the history that its bytes stand for; what they lead to is
 -- reported; and the folder is as it was.
-pub record ReportsLanes {D : Type 0} (words : DiskWords D) (folder : List ℕ) (said : Said) (old new : VaultTold)
+pub record ReportsLanes {D : Type 0} (words : DiskWords D) (folder : List ℕ) (said : Said)
+    (old new : VaultTold)
     (written written_after : Known) (printed : Result (Unit {0}) Unprinted) : Type 0 where
   pub lanes : List (LaneValue D NoGateway)
   pub some : 1 ≤ length lanes
@@ -53,7 +54,8 @@ pub record ReportsLanes {D : Type 0} (words : DiskWords D) (folder : List ℕ) (
   pub calm : new.faults ≡ old.faults
 
 -- The lanes of a folder weren't opened: nothing is printed, and no lane has other bytes.
-pub record ReportsNothing (folder : List ℕ) (old new : VaultTold) (written written_after : Known) (fault : Unopened)
+pub record ReportsNothing (folder : List ℕ) (old new : VaultTold) (written written_after : Known)
+    (fault : Unopened)
     : Type 0 where
   pub cause : IsCause folder old new 0 0 fault
   pub in_order : IsFirstOfThem folder old fault

@@ -1,5 +1,6 @@
 -- What a run of a folder's lanes over lines does.
-use Rattle.std.specs.Prelude.{ℕ, ◌≡◌, ◌≤◌, ◌⊎◌, Bool, false, List, [], ◌∷◌, length, slice_get, Option, Some, IfSome}
+use Rattle.std.specs.Prelude.{ℕ, ◌≡◌, ◌≤◌, ◌⊎◌, Bool, false, List, [], ◌∷◌, length, slice_get, Option, Some}
+use Rattle.std.specs.Prelude.{IfSome}
 use Rattle.std.specs.Prelude.{Result, Ok, Err}
 use Rattle.std.specs.Io.KnownBytes.{Keeps}
 use Rattle.kb_base.specs.Faults.{Rose}
@@ -20,7 +21,7 @@ use Rattle.kb_apply.specs.LaneRuns.{LanesValue, Outside, lanes_machine}
 use Rattle.kb_opening.specs.declared.fault.Unopened.{Unopened}
 use Rattle.kb_opening.specs.declared.fault.Unopened.TheVariants as unopened
 use Rattle.kb_opening.specs.Folders.{VaultTold, DiskWords, is_among}
-use Rattle.kb_opening.specs.Openings.{IsOpened, IsAsBefore, IsCause, IsFirstOfThem}
+use Rattle.kb_opening.specs.Openings.{AreServed, IsOpened, IsAsBefore, IsCause, IsFirstOfThem}
 use Rattle.kb_endings.specs.declared.stop.Stop.{Stop}
 use Rattle.kb_endings.specs.declared.stop.Stop.TheVariants as stops
 
@@ -33,19 +34,21 @@ pub record IsSoundLane {D G : Type 0} (asked : G → Option (List Asked)) (lane 
   pub even : AreEvenNow (machine_of lane)
   pub once : WasAskedOnce (opened_of lane) (asked lane.gateway) lane.own
 
--- The lanes of a folder are opened, each with the history that its bytes stand for; the lines of the input
--- are answered by them; and their disks are given back, each with bytes that stand for its lane's last
--- history, or, if an append failed on it, for that or for it and the command whose append failed. A disk
--- that failed is counted, and nothing else changes in the vault.
-pub record RunsLanes {D G C : Type 0} (words : DiskWords D) (outside : Outside D G C) (folder : List ℕ) (clock : C)
-    (old new : VaultTold) (left left_after written written_after : Known) (outcome : Result (Unit {0}) ApplyStop)
-    : Type 0 where
+-- The lanes of a folder are opened, each with the history that its bytes stand for and with a gateway that
+-- serves it; the lines of the input are answered by them; and their disks are given back, each with bytes
+-- that stand for its lane's last history, or, if an append failed on it, for that or for it and the command
+-- whose append failed. A disk that failed is counted, and nothing else changes in the vault.
+pub record RunsLanes {D G C : Type 0} (words : DiskWords D) (outside : Outside D G C)
+    (serves : G → ℕ → Type 0)
+    (folder : List ℕ) (clock : C) (old new : VaultTold) (left left_after written written_after : Known)
+    (outcome : Result (Unit {0}) ApplyStop) : Type 0 where
   pub first : List (LaneValue D G)
   pub last : LanesValue D G C
   pub some : 1 ≤ length first
   pub few : length first ≤ 64
   pub opened : (place : ℕ) (lane : LaneValue D G) → slice_get first place ≡ Some lane
       → IsOpened words (length first) place (old.lane_bytes folder place) lane
+  pub served : AreServed serves first
   pub ran : Applies (lanes_machine outside) (record { lanes = first; clock = clock; full = false })
       left left_after written written_after last outcome
   pub further : ContinueAll (Continues outside.honest outside.moment outside.left_since outside.fault_count)
@@ -53,7 +56,8 @@ pub record RunsLanes {D G C : Type 0} (words : DiskWords D) (outside : Outside D
   pub sound : (place : ℕ) (lane : LaneValue D G) → slice_get last.lanes place ≡ Some lane
       → IsSoundLane outside.asked lane
   pub stands : (place : ℕ) (lane : LaneValue D G) → slice_get last.lanes place ≡ Some lane
-      → IfSome (old.lane_bytes folder place) (λ before. IfSome (new.lane_bytes folder place) (StandsForLog lane.log))
+      → IfSome (old.lane_bytes folder place) (λ before. IfSome (new.lane_bytes folder place)
+      (StandsForLog lane.log))
   pub counted : outcome ≡ Err applied.Disk → Rose old.faults new.faults
   pub inside : SameLanes new.is_out old.is_out
   pub others : (this_folder : List ℕ) (this : ℕ) → is_among folder (length first) this_folder this ≡ false
@@ -86,10 +90,12 @@ pub record LeavesFolder (folder : List ℕ) (old new : VaultTold) (market market
   pub unwritten : Keeps written written_after
 
 -- What a run over the lines of the input leaves, by its outcome.
-abbrev pub AppliesFolder : {D G C : Type 0} → DiskWords D → Outside D G C → List ℕ → C → VaultTold → VaultTold → ℕ → ℕ
-    → Known → Known → Known → Known → Result (Unit {0}) Stop → Type 0
-AppliesFolder words outside folder clock old new market market_after left left_after written written_after outcome =
+abbrev pub AppliesFolder : {D G C : Type 0} → DiskWords D → Outside D G C → (G → ℕ → Type 0) → List ℕ → C
+    → VaultTold → VaultTold → ℕ → ℕ → Known → Known → Known → Known → Result (Unit {0}) Stop → Type 0
+AppliesFolder words outside serves folder clock old new market market_after left left_after
+    written written_after
+    outcome =
     ((fault : Unopened) × (outcome ≡ Err (stop_of_unopened fault))
     × LeavesFolder folder old new market market_after left left_after written written_after fault)
     ⊎ ((run : Result (Unit {0}) ApplyStop) × (outcome ≡ outcome_of run) × (market_after ≡ market)
-    × RunsLanes words outside folder clock old new left left_after written written_after run)
+    × RunsLanes words outside serves folder clock old new left left_after written written_after run)

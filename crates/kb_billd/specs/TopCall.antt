@@ -1,5 +1,6 @@
 -- What the program does by its words.
-use Rattle.std.specs.Prelude.{ℕ, ◌≡◌, ◌≤◌, ◌⊎◌, Bool, List, codes, bytes_eq, if◌then◌else◌, Option, Some, None, IfSome, refl}
+use Rattle.std.specs.Prelude.{ℕ, ◌≡◌, ◌≤◌, ◌⊎◌, ⊤, Bool, List, codes, bytes_eq, if◌then◌else◌, Option, Some}
+use Rattle.std.specs.Prelude.{None, IfSome, refl}
 use Rattle.std.specs.Prelude.{Result, Err}
 use Rattle.std.specs.Io.KnownBytes.{Keeps}
 use Rattle.kb_days.specs.Calendar.{first_day, last_day}
@@ -23,7 +24,8 @@ use Rattle.kb_billd.specs.Runs.{AppliesFolder}
 use Rattle.kb_billd.specs.Summaries.{MakesBy}
 
 -- what is told of lanes without a gateway: it was asked nothing that is told, and never fails
-abbrev pub alone : {D C : Type 0} → (D → Bool) → (D → ℕ) → (D → ℕ → List ℕ → Type 0) → (D → ℕ) → (C → Option ℕ)
+abbrev pub alone : {D C : Type 0} → (D → Bool) → (D → ℕ) → (D → ℕ → List ℕ → Type 0) → (D → ℕ)
+    → (C → Option ℕ)
     → Outside D NoGateway C
 alone honest moment left_since fault_count day =
     outside_of honest moment left_since fault_count (λ gateway. None) (λ gateway. None) (λ gateway. 0) day
@@ -37,7 +39,13 @@ pub record Around : Type 0 where
   pub market : ℕ
 
 abbrev pub around_of : Known → Known → VaultTold → ℕ → Around
-around_of left written vault market = record { left = left; written = written; vault = vault; market = market }
+around_of left written vault market = record {
+  left = left;
+  written = written;
+  vault = vault;
+  market =
+      market;
+}
 
 -- Nothing is read, written or changed.
 pub record IsUntouched (old new : Around) : Type 0 where
@@ -60,21 +68,27 @@ no_market = refl
 a_market : gateway_of (Some (codes "localhost:9000")) ≡ Some (codes "localhost:9000")
 a_market = refl
 
--- `apply`, by the gateway: with one of a market, or with none.
-abbrev pub AppliesBy : {D G N C : Type 0} → DiskWords D → Outside D G C → Outside D N C → List ℕ → C → Around → Around
-    → Result (Unit {0}) Stop → Option (List ℕ) → Type 0
-AppliesBy disks outside alone folder clock old new outcome (Some name) =
-    AppliesFolder disks outside folder clock old.vault new.vault old.market new.market old.left new.left old.written
+-- `apply`, by the gateway: with those of a market, each of which serves its lane under the name; or with
+-- none.
+abbrev pub AppliesBy : {D G N C : Type 0} → DiskWords D → Outside D G C → Outside D N C
+    → (G → List ℕ → ℕ → Type 0)
+    → List ℕ → C → Around → Around → Result (Unit {0}) Stop → Option (List ℕ) → Type 0
+AppliesBy disks outside alone serves folder clock old new outcome (Some name) =
+    AppliesFolder disks outside (λ gateway place. serves gateway name place) folder clock old.vault
+    new.vault old.market
+    new.market old.left new.left old.written new.written outcome
+AppliesBy disks outside alone serves folder clock old new outcome None = (new.market ≡ old.market)
+    × AppliesFolder disks alone (λ gateway place. ⊤) folder clock old.vault new.vault 0 0 old.left
+    new.left old.written
     new.written outcome
-AppliesBy disks outside alone folder clock old new outcome None = (new.market ≡ old.market)
-    × AppliesFolder disks alone folder clock old.vault new.vault 0 0 old.left new.left old.written new.written outcome
 
 -- a day that a clock gave, by the day that it tells to give
 abbrev pub IsToday : Option ℕ → ℕ → Type 0
 IsToday told today = (first_day ≤ today) × (today ≤ last_day) × IfSome told (λ day. today ≡ day)
 
 -- `init`, on a day of the clock. It reads no input and writes no answers.
-pub record Founds (told : Option ℕ) (init : Init) (old new : Around) (outcome : Result (Unit {0}) Stop) : Type 0 where
+pub record Founds (told : Option ℕ) (init : Init) (old new : Around)
+    (outcome : Result (Unit {0}) Stop) : Type 0 where
   pub today : ℕ
   pub day : IsToday told today
   pub founded : FoundsFolder today init old.vault new.vault outcome
@@ -85,7 +99,8 @@ pub record Founds (told : Option ℕ) (init : Init) (old new : Around) (outcome 
 -- `report`, which reads no input.
 pub record Reports {D : Type 0} (disks : DiskWords D) (report : Report) (old new : Around)
     (outcome : Result (Unit {0}) Stop) : Type 0 where
-  pub reported : ReportsFolder disks report.dir (said_by report.kind report.day) old.vault new.vault old.written
+  pub reported : ReportsFolder disks report.dir (said_by report.kind report.day) old.vault
+      new.vault old.written
       new.written outcome
   pub unread : Keeps old.left new.left
   pub market : new.market ≡ old.market
@@ -97,26 +112,32 @@ pub record Makes (make : Make) (old new : Around) (outcome : Result (Unit {0}) S
 
 -- What the words ask for is done, up to the last output line. Words that aren't in the grammar, or whose
 -- command isn't built yet, do nothing.
-abbrev pub Does : {D G N C : Type 0} → DiskWords D → Outside D G C → Outside D N C → C → Around → Around
-    → Result (Unit {0}) Stop → Option Words → Type 0
-Does disks outside alone clock old new outcome (Some (words.Init init)) =
+abbrev pub Does : {D G N C : Type 0} → DiskWords D → Outside D G C → Outside D N C → (G → List ℕ → ℕ → Type 0)
+    → C
+    → Around → Around → Result (Unit {0}) Stop → Option Words → Type 0
+Does disks outside alone serves clock old new outcome (Some (words.Init init)) =
     Founds (outside.day clock) init old new outcome
-Does disks outside alone clock old new outcome (Some (words.Apply apply)) =
-    AppliesBy disks outside alone apply.dir clock old new outcome (gateway_of apply.gateway)
-Does disks outside alone clock old new outcome (Some (words.Report report)) = Reports disks report old new outcome
-Does disks outside alone clock old new outcome (Some (words.Make make)) = Makes make old new outcome
-Does disks outside alone clock old new outcome other = (outcome ≡ Err stops.Words) × IsUntouched old new
+Does disks outside alone serves clock old new outcome (Some (words.Apply apply)) =
+    AppliesBy disks outside alone serves apply.dir clock old new outcome (gateway_of apply.gateway)
+Does disks outside alone serves clock old new outcome (Some (words.Report report)) =
+    Reports disks report old new outcome
+Does disks outside alone serves clock old new outcome (Some (words.Make make)) = Makes make old new outcome
+Does disks outside alone serves clock old new outcome other = (outcome ≡ Err stops.Words)
+    × IsUntouched old new
 
 -- It is done, unless memory runs out before anything is.
-abbrev pub Begins : {D G N C : Type 0} → DiskWords D → Outside D G C → Outside D N C → C → Around → Around
-    → Result (Unit {0}) Stop → Option Words → Type 0
-Begins disks outside alone clock old new outcome words = Does disks outside alone clock old new outcome words
+abbrev pub Begins : {D G N C : Type 0} → DiskWords D → Outside D G C → Outside D N C
+    → (G → List ℕ → ℕ → Type 0) → C
+    → Around → Around → Result (Unit {0}) Stop → Option Words → Type 0
+Begins disks outside alone serves clock old new outcome words =
+    Does disks outside alone serves clock old new outcome words
     ⊎ ((outcome ≡ Err (stops.Run runs.Memory)) × IsUntouched old new)
 
 -- And then the last output line is written, and the status is that of how it ended.
-pub record Ends {D G N C : Type 0} (disks : DiskWords D) (outside : Outside D G C) (alone : Outside D N C) (clock : C)
-    (words : Option Words) (old new : Around) (status : ℕ) : Type 0 where
+pub record Ends {D G N C : Type 0} (disks : DiskWords D) (outside : Outside D G C) (alone : Outside D N C)
+    (serves : G → List ℕ → ℕ → Type 0) (clock : C) (words : Option Words) (old new : Around)
+    (status : ℕ) : Type 0 where
   pub outcome : Result (Unit {0}) Stop
   pub written : Known
-  pub done : Begins disks outside alone clock old (record new { written = written }) outcome words
+  pub done : Begins disks outside alone serves clock old (record new { written = written }) outcome words
   pub closed : Closes outcome status written new.written

@@ -1,5 +1,6 @@
 //! The top call: what the program does with its words.
-ghost use Rattle.std.specs.Prelude.{◌≡◌, ◌≤◌, ◌⊎◌, ℕ, List, Err, Some, None, false, map, option_copied, string_bytes};
+ghost use Rattle.std.specs.Prelude.{◌≡◌, ◌≤◌, ◌⊎◌, ℕ, List, Err, Some, None, false, map, option_copied};
+ghost use Rattle.std.specs.Prelude.{string_bytes};
 ghost use Rattle.kb_base.specs.Faults.{Rose};
 ghost use Rattle.kb_apply.specs.LaneRuns.{outside_of};
 ghost use Rattle.kb_lines.specs.declared.stop.Stop.TheVariants.{Input, Output};
@@ -7,7 +8,8 @@ ghost use Rattle.kb_vault.specs.Places.{SameLanes};
 ghost use Rattle.kb_opening.specs.Folders.{told_of, words_of};
 ghost use Rattle.kb_words.specs.Grammar.{words_of as words_read};
 ghost use Rattle.kb_endings.specs.declared.stop.Stop.TheVariants as stops;
-ghost use Rattle.kb_billd.specs.TopCall.{alone, around_of, gateway_of, AppliesBy, Begins, Does, Ends, IsToday};
+ghost use Rattle.kb_billd.specs.TopCall.{alone, around_of, gateway_of, AppliesBy, Begins, Does, Ends};
+ghost use Rattle.kb_billd.specs.TopCall.{IsToday};
 ghost use Rattle.kb_billd.specs.Foundings.{FoundsFolder};
 ghost use Rattle.kb_billd.specs.Reports.{ReportsFolder, said_by};
 
@@ -35,9 +37,11 @@ pub fn billd<I: Source, O: Sink, V: Vault, M: Market, C: Clock + Drop>(
 ) -> u8
     requires inside { (folder : List ℕ) (lane : ℕ) → V.is_out vault.old folder lane ≡ false }
     ensures ends { Ends (words_of V.Disk.honest V.Disk.seen V.Disk.images V.Disk.fault_count)
-        (outside_of V.Disk.honest V.Disk.moment V.Disk.left_since V.Disk.fault_count M.Gateway.asked M.Gateway.said
+        (outside_of V.Disk.honest V.Disk.moment V.Disk.left_since V.Disk.fault_count M.Gateway.asked
+        M.Gateway.said
         M.Gateway.faults C.day)
-        (alone V.Disk.honest V.Disk.moment V.Disk.left_since V.Disk.fault_count C.day) clock (words_read (map string_bytes words.now.items))
+        (alone V.Disk.honest V.Disk.moment V.Disk.left_since V.Disk.fault_count C.day) M.serves clock
+        (words_read (map string_bytes words.now.items))
         (around_of (I.left input.old) (O.written output.old)
         (told_of V.is_out V.lane_bytes V.file_bytes V.faults vault.old) (M.faults market.old))
         (around_of (I.left input.new) (O.written output.new)
@@ -65,9 +69,10 @@ fn begin<I: Source, O: Sink, V: Vault, M: Market, C: Clock + Drop>(
 ) -> Result<(), Stop>
     requires inside { (folder : List ℕ) (lane : ℕ) → V.is_out vault.old folder lane ≡ false }
     ensures begins { Begins (words_of V.Disk.honest V.Disk.seen V.Disk.images V.Disk.fault_count)
-        (outside_of V.Disk.honest V.Disk.moment V.Disk.left_since V.Disk.fault_count M.Gateway.asked M.Gateway.said
+        (outside_of V.Disk.honest V.Disk.moment V.Disk.left_since V.Disk.fault_count M.Gateway.asked
+        M.Gateway.said
         M.Gateway.faults C.day)
-        (alone V.Disk.honest V.Disk.moment V.Disk.left_since V.Disk.fault_count C.day) clock
+        (alone V.Disk.honest V.Disk.moment V.Disk.left_since V.Disk.fault_count C.day) M.serves clock
         (around_of (I.left input.old) (O.written output.old)
         (told_of V.is_out V.lane_bytes V.file_bytes V.faults vault.old) (M.faults market.old))
         (around_of (I.left input.new) (O.written output.new)
@@ -97,9 +102,10 @@ fn act<I: Source, O: Sink, V: Vault, M: Market, C: Clock + Drop>(
 ) -> Result<(), Stop>
     requires inside { (folder : List ℕ) (lane : ℕ) → V.is_out vault.old folder lane ≡ false }
     ensures does { Does (words_of V.Disk.honest V.Disk.seen V.Disk.images V.Disk.fault_count)
-        (outside_of V.Disk.honest V.Disk.moment V.Disk.left_since V.Disk.fault_count M.Gateway.asked M.Gateway.said
+        (outside_of V.Disk.honest V.Disk.moment V.Disk.left_since V.Disk.fault_count M.Gateway.asked
+        M.Gateway.said
         M.Gateway.faults C.day)
-        (alone V.Disk.honest V.Disk.moment V.Disk.left_since V.Disk.fault_count C.day) clock
+        (alone V.Disk.honest V.Disk.moment V.Disk.left_since V.Disk.fault_count C.day) M.serves clock
         (around_of (I.left input.old) (O.written output.old)
         (told_of V.is_out V.lane_bytes V.file_bytes V.faults vault.old) (M.faults market.old))
         (around_of (I.left input.new) (O.written output.new)
@@ -145,9 +151,11 @@ fn apply_by<I: Source, O: Sink, V: Vault, M: Market, C: Clock + Drop>(
 ) -> Result<(), Stop>
     requires inside { (lane : ℕ) → V.is_out vault.old apply.now.dir lane ≡ false }
     ensures applied { AppliesBy (words_of V.Disk.honest V.Disk.seen V.Disk.images V.Disk.fault_count)
-        (outside_of V.Disk.honest V.Disk.moment V.Disk.left_since V.Disk.fault_count M.Gateway.asked M.Gateway.said
+        (outside_of V.Disk.honest V.Disk.moment V.Disk.left_since V.Disk.fault_count M.Gateway.asked
+        M.Gateway.said
         M.Gateway.faults C.day)
-        (alone V.Disk.honest V.Disk.moment V.Disk.left_since V.Disk.fault_count C.day) apply.now.dir clock
+        (alone V.Disk.honest V.Disk.moment V.Disk.left_since V.Disk.fault_count C.day) M.serves
+        apply.now.dir clock
         (around_of (I.left input.old) (O.written output.old)
         (told_of V.is_out V.lane_bytes V.file_bytes V.faults vault.old) (M.faults market.old))
         (around_of (I.left input.new) (O.written output.new)

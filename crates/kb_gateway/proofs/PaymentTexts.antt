@@ -23,7 +23,8 @@ split (byte ∷ bytes) key [] other_key is other same =
     absurd (no_colon byte (and_parts (is_name_byte byte) (list_all is_name_byte bytes) is).0
     (sym (ap (λ xs. get_or xs 0 0) same)))
 split (byte ∷ bytes) key (other_byte ∷ others) other_key is other same =
-    let later = split bytes key others other_key (and_parts (is_name_byte byte) (list_all is_name_byte bytes) is).1
+    let later = split bytes key others other_key (and_parts (is_name_byte byte)
+    (list_all is_name_byte bytes) is).1
     (and_parts (is_name_byte other_byte) (list_all is_name_byte others) other).1 (ap (drop 1) same) in
     ((λ i. ap (λ xs. get_or xs 0 0) same i ∷ later.0 i), later.1)
 

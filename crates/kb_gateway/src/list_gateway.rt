@@ -108,7 +108,8 @@ impl ListGateway {
     /// Notes what was heard at a call.
     fn note_said(&mut self, order: &Order, call: Call, heard: Heard)
         ensures noted { Notes self.old.said
-            (record { account = order.now.account; key = order.now.key; call = call; heard = heard }) self.new.said }
+            (record { account = order.now.account; key = order.now.key; call = call; heard = heard })
+            self.new.said }
         ensures others { self.new ≡ record self.old { said = self.new.said } }
     {
         let saying = Saying {

@@ -1,5 +1,5 @@
 //! A market in memory.
-ghost use Rattle.std.specs.Prelude.{◌≡◌, ◌≤◌, ◌⊎◌, ◌↔◌, [], ◌∷◌, IsErr, IsTrue, IfOk, OnErr, OnOk};
+ghost use Rattle.std.specs.Prelude.{◌≡◌, ◌≤◌, ◌⊎◌, ◌↔◌, ⊤, [], ◌∷◌, IsErr, IsTrue, IfOk, OnErr, OnOk};
 ghost use Rattle.kb_base.specs.Faults.{next_count, HasCause};
 ghost use Rattle.kb_ports.specs.Memory.{fails_next};
 ghost use Rattle.kb_gateway.specs.ListGateways.{new_market};
@@ -55,6 +55,8 @@ impl Market for ListMarket {
     type Gateway = ListGateway;
 
     ghost faults = { λ market. market.faults };
+
+    ghost serves = { λ gateway name lane. ⊤ };
 
     /// Gives out the next gateway.
     fn gateway(&mut self, name: &str, lane: u32) -> Result<ListGateway, Failed>

@@ -1,5 +1,6 @@
 -- What a gateway over a link does at a call.
-use Rattle.std.specs.Prelude.{ℕ, ◌≡◌, ◌≢◌, ◌≤◌, Bool, false, List, ◌++◌, length, Option, None, Some, codes, refl}
+use Rattle.std.specs.Prelude.{ℕ, ◌≡◌, ◌≢◌, ◌≤◌, Bool, false, List, ◌++◌, length, Option, None, Some, codes}
+use Rattle.std.specs.Prelude.{refl}
 use Rattle.kb_base.specs.Stream.{Reads, Writes}
 use Rattle.kb_gateway.specs.declared.order.Asked.{Asked}
 use Rattle.kb_line_gateway.specs.GatewayLines.{line}

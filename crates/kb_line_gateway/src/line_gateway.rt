@@ -19,7 +19,8 @@ ghost use Rattle.std.specs.Io.KnownBytes.{Appends, Consumes};
 ghost use Rattle.kb_base.specs.Faults.{HasCause, Rose, next_count};
 ghost use Rattle.kb_gateway.specs.Answers.{Notes, asked_of, said_of_ask, said_of_look_up};
 ghost use Rattle.kb_line_gateway.specs.GatewayLines.{ask_line, look_line, told_line, seen_line};
-ghost use Rattle.kb_line_gateway.specs.Exchanges.{new_value, orders_untold, WritesPart, ReadsFew, HasNoAnswer};
+ghost use Rattle.kb_line_gateway.specs.Exchanges.{new_value, orders_untold, WritesPart, ReadsFew};
+ghost use Rattle.kb_line_gateway.specs.Exchanges.{HasNoAnswer};
 
 use crate::exchange::{ask_over, look_up_over};
 use kb_base::{Failed, FaultCount};

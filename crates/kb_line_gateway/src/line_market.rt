@@ -1,5 +1,5 @@
 //! Gateways that are asked over TCP.
-ghost use Rattle.std.specs.Prelude.{◌≡◌, ◌≤◌, IfOk, OnOk};
+ghost use Rattle.std.specs.Prelude.{◌≡◌, ◌≤◌, ⊤, IfOk, OnOk};
 ghost use Rattle.kb_base.specs.Faults.{HasCause};
 ghost use Rattle.kb_line_gateway.specs.Exchanges.{new_value};
 
@@ -48,6 +48,8 @@ impl<R: Net<Listener = TcpListener, Stream = TcpStream>> Market for LineMarket<'
     type Gateway = LineGateway<TcpLink>;
 
     ghost faults = { λ market. market };
+
+    ghost serves = { λ gateway name lane. ⊤ };
 
     /// Connects to the peer with this name, `host:port`: anew for each lane, whatever its number. It fails
     /// where the name is none or isn't known, and where nobody answers there.

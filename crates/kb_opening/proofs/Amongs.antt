@@ -1,7 +1,9 @@
 -- Places of lanes, and lanes that are among the first of a folder.
-use Rattle.std.proofs.Common.{◌≡◌, ◌<◌, ◌≤◌, ◌+◌, ℕ, Bool, true, false, cond, List, arith, refl, ap, sym, subst, ◌∙◌}
+use Rattle.std.proofs.Common.{◌≡◌, ◌<◌, ◌≤◌, ◌+◌, ℕ, Bool, true, false, cond, List, arith, refl, ap, sym}
+use Rattle.std.proofs.Common.{subst, ◌∙◌}
 use Rattle.std.specs.Prelude.{bytes_eq, ◌&&◌, ◌||◌, nat_lt, ◌==◌}
-use Rattle.std.proofs.lemmas.Bool.{and_from, and_right, and_parts, lt-ltb, le-ltb, ne_eqb, ltb-true, eqb-true, false≢true}
+use Rattle.std.proofs.lemmas.Bool.{and_from, and_right, and_parts, lt-ltb, le-ltb, ne_eqb, ltb-true, eqb-true}
+use Rattle.std.proofs.lemmas.Bool.{false≢true}
 use Rattle.std.proofs.lemmas.Bool.Decides.{nat_tests}
 use Rattle.std.proofs.lemmas.Slice.Eq.{bytes_eq-Decides}
 use Rattle.kb_vault.specs.Places.{is_place, with_lane, SameLanes}
@@ -19,7 +21,11 @@ among folder count lane less =
 pub of_folder : (this_folder : List ℕ) (count : ℕ) (folder : List ℕ) (lane : ℕ)
     → is_among this_folder count folder lane ≡ true → (this_folder ≡ folder) × (lane < count)
 of_folder this_folder count folder lane is =
-    let parts = and_parts _ _ is in ((bytes_eq-Decides this_folder folder).0 parts.0, ltb-true lane count parts.1)
+    let parts = and_parts _ _ is in (
+      (bytes_eq-Decides this_folder folder).0 parts.0,
+      ltb-true lane
+          count parts.1,
+    )
 
 -- no lane with another number is among them
 pub not_among : (this_folder : List ℕ) (count : ℕ) (folder : List ℕ) (lane : ℕ) → count ≤ lane
@@ -48,7 +54,11 @@ not_among_fewer this_folder fewer more folder lane few not_there =
 pub one_place : (this_folder : List ℕ) (this : ℕ) (folder : List ℕ) (lane : ℕ)
     → is_place this_folder this folder lane ≡ true → (this_folder ≡ folder) × (this ≡ lane)
 one_place this_folder this folder lane is =
-    let parts = and_parts _ _ is in ((bytes_eq-Decides this_folder folder).0 parts.0, eqb-true this lane parts.1)
+    let parts = and_parts _ _ is in (
+      (bytes_eq-Decides this_folder folder).0 parts.0,
+      eqb-true
+          this lane parts.1,
+    )
 
 -- a lane that isn't among some isn't at the place of one of them
 pub not_place : (this_folder : List ℕ) (this count : ℕ) (folder : List ℕ) (lane : ℕ) → this < count
@@ -63,10 +73,12 @@ not_place this_folder this count folder lane less not_there =
 pub apart : (this_folder : List ℕ) (this : ℕ) (folder : List ℕ) (lane : ℕ) → lane < this
     → is_place this_folder this folder lane ≡ false
 apart this_folder this folder lane less =
-    and_right (bytes_eq this_folder folder) (this == lane) (ne_eqb this lane (λ same. omega (arith, less, same)))
+    and_right (bytes_eq this_folder folder) (this == lane)
+    (ne_eqb this lane (λ same. omega (arith, less, same)))
 
 -- what is told of a place is told of it by whatever name
-pub told_at : {A : Type 0} (told : List ℕ → ℕ → A) (this_folder : List ℕ) (this : ℕ) (folder : List ℕ) (lane : ℕ)
+pub told_at : {A : Type 0} (told : List ℕ → ℕ → A) (this_folder : List ℕ) (this : ℕ)
+    (folder : List ℕ) (lane : ℕ)
     → is_place this_folder this folder lane ≡ true → told this_folder this ≡ told folder lane
 told_at told this_folder this folder lane is =
     let at = one_place this_folder this folder lane is in
@@ -82,40 +94,47 @@ one_more_now true true less more now before is = rw is refl
 one_more_now true false less more now before is = rw is refl
 
 -- one lane more
-pub with_one_more : {A : Type 0} (told : List ℕ → ℕ → A) (this_folder : List ℕ) (count : ℕ) (now : A) (folder : List ℕ)
+pub with_one_more : {A : Type 0} (told : List ℕ → ℕ → A) (this_folder : List ℕ) (count : ℕ) (now : A)
+    (folder : List ℕ)
     (lane : ℕ) → with_lane (with_lanes told this_folder count now) this_folder count now folder lane
     ≡ with_lanes told this_folder (count + 1) now folder lane
 with_one_more told this_folder count now folder lane =
-    one_more_now (bytes_eq this_folder folder) (count == lane) (nat_lt lane count) (nat_lt lane (count + 1)) now
+    one_more_now (bytes_eq this_folder folder) (count == lane) (nat_lt lane count)
+    (nat_lt lane (count + 1)) now
     (told folder lane) (less_one_more lane count)
 
 -- where nothing was told anew, there is what was told before
-pub told_before : {A : Type 0} (told : List ℕ → ℕ → A) (this_folder : List ℕ) (count : ℕ) (now : A) (folder : List ℕ)
+pub told_before : {A : Type 0} (told : List ℕ → ℕ → A) (this_folder : List ℕ) (count : ℕ) (now : A)
+    (folder : List ℕ)
     (lane : ℕ) → is_among this_folder count folder lane ≡ false
     → with_lanes told this_folder count now folder lane ≡ told folder lane
 told_before told this_folder count now folder lane is = ap (λ (b : Bool). cond b now (told folder lane)) is
 
-pub told_now : {A : Type 0} (told : List ℕ → ℕ → A) (this_folder : List ℕ) (count : ℕ) (now : A) (folder : List ℕ)
+pub told_now : {A : Type 0} (told : List ℕ → ℕ → A) (this_folder : List ℕ) (count : ℕ) (now : A)
+    (folder : List ℕ)
     (lane : ℕ) → is_among this_folder count folder lane ≡ true
     → with_lanes told this_folder count now folder lane ≡ now
 told_now told this_folder count now folder lane is = ap (λ (b : Bool). cond b now (told folder lane)) is
 
 -- so for one lane
-pub told_elsewhere : {A : Type 0} (told : List ℕ → ℕ → A) (this_folder : List ℕ) (this : ℕ) (now : A) (folder : List ℕ)
+pub told_elsewhere : {A : Type 0} (told : List ℕ → ℕ → A) (this_folder : List ℕ) (this : ℕ) (now : A)
+    (folder : List ℕ)
     (lane : ℕ) → is_place this_folder this folder lane ≡ false
     → with_lane told this_folder this now folder lane ≡ told folder lane
 told_elsewhere told this_folder this now folder lane is = ap (λ (b : Bool). cond b now (told folder lane)) is
 
 -- lanes and one more
 pub told_more : {A : Type 0} (old mid new : List ℕ → ℕ → A) (this_folder : List ℕ) (count : ℕ) (now : A)
-    → SameLanes mid (with_lanes old this_folder count now) → SameLanes new (with_lane mid this_folder count now)
+    → SameLanes mid (with_lanes old this_folder count now)
+    → SameLanes new (with_lane mid this_folder count now)
     → SameLanes new (with_lanes old this_folder (count + 1) now)
 told_more old mid new this_folder count now first last folder lane =
     last folder lane
     ∙ ap (λ before. cond (is_place this_folder count folder lane) now before) (first folder lane)
     ∙ with_one_more old this_folder count now folder lane
 
-again_now : {A : Type 0} (here : Bool) (now gone before : A) → cond here now (cond here gone before) ≡ cond here now before
+again_now : {A : Type 0} (here : Bool) (now gone before : A)
+    → cond here now (cond here gone before) ≡ cond here now before
 again_now true now gone before = refl
 again_now false now gone before = refl
 

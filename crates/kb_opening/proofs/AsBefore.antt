@@ -44,7 +44,8 @@ module _ {D G : Type 0} (words : DiskWords D) (folder : List ℕ) (old mid new :
             let at = of_folder folder (length lanes) this_folder this there in
             let lane = some_at lanes this at.1 in
             subst (λ (f : List ℕ). TellsNoOther (old.lane_bytes f this) (new.lane_bytes f this)) at.0
-            (tells_no_other (old.lane_bytes folder this) (new.lane_bytes folder this) (words.seen lane.0.log.journal.disk)
+            (tells_no_other (old.lane_bytes folder this) (new.lane_bytes folder this)
+            (words.seen lane.0.log.journal.disk)
             (stopped.seen this lane.0 lane.1) (back.bytes this lane.0 lane.1))
         by_test false there =
             subst (TellsNoOther (old.lane_bytes this_folder this)) (sym (back.others this_folder this there))
@@ -64,7 +65,8 @@ module _ {D G : Type 0} (words : DiskWords D) (folder : List ℕ) (old mid new :
     }
 
     -- the cause is still one
-    pub cause_still : (market_old market_new : ℕ) (fault : Unopened) → IsCause folder old mid market_old market_new fault
+    pub cause_still : (market_old market_new : ℕ) (fault : Unopened)
+        → IsCause folder old mid market_old market_new fault
         → IsCause folder old new market_old market_new fault
     cause_still market_old market_new faults.Disk cause =
         (subst (λ (n : ℕ). Rose old.faults n) (sym (back.calm stopped.calm)) cause.0, cause.1)

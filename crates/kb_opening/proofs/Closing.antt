@@ -17,7 +17,8 @@ are_out words folder count old mid lanes opened place inside =
 module _ {D G : Type 0} (words : DiskWords D) (folder : List ℕ) (count : ℕ) (old mid new : VaultTold)
     (first last : List (LaneValue D G)) (opened : AreOpened words folder count old mid first)
     (back : AreBack words folder mid new last) (all : length last ≡ length first) where
-  same_test : (this_folder : List ℕ) (this : ℕ) (there : Bool) → is_among folder (length last) this_folder this ≡ there
+  same_test : (this_folder : List ℕ) (this : ℕ) (there : Bool)
+      → is_among folder (length last) this_folder this ≡ there
       → is_among folder (length first) this_folder this ≡ there
   same_test this_folder this there is = subst (λ (n : ℕ). is_among folder n this_folder this ≡ there) all is
 
@@ -34,12 +35,15 @@ module _ {D G : Type 0} (words : DiskWords D) (folder : List ℕ) (count : ℕ) 
       by_test false there = back.inside this_folder this
           ∙ told_before mid.is_out folder (length last) false this_folder this there
           ∙ opened.out this_folder this
-          ∙ told_before old.is_out folder (length first) true this_folder this (same_test this_folder this false there)
+          ∙ told_before old.is_out folder (length first) true this_folder this
+          (same_test this_folder this false there)
 
   -- and the other lanes have their bytes
-  pub others_as_before : (this_folder : List ℕ) (this : ℕ) → is_among folder (length last) this_folder this ≡ false
+  pub others_as_before : (this_folder : List ℕ) (this : ℕ)
+      → is_among folder (length last) this_folder this ≡ false
       → new.lane_bytes this_folder this ≡ old.lane_bytes this_folder this
   others_as_before this_folder this there =
       back.others this_folder this there
       ∙ opened.bytes this_folder this
-      ∙ told_before old.lane_bytes folder (length first) None this_folder this (same_test this_folder this false there)
+      ∙ told_before old.lane_bytes folder (length first) None this_folder this
+      (same_test this_folder this false there)

@@ -7,15 +7,20 @@ use Rattle.kb_opening.specs.Openings.{TellsNoOther}
 use Rattle.kb_opening.specs.Private.OneLane.{TakesBack, IsGivenBack}
 
 -- what is read of an honest disk that was only synced and read is what was read of it before
-pub read_again : {D : Type 0} (honest : D → Bool) (seen : D → List ℕ) (images : D → List ℕ → Type 0) (old new : D)
-    (bytes : List ℕ) → ((disk : D) → IsTrue (honest disk) → images disk (seen disk)) → Opens honest seen images old bytes
+pub read_again : {D : Type 0} (honest : D → Bool) (seen : D → List ℕ)
+    (images : D → List ℕ → Type 0) (old new : D)
+    (bytes : List ℕ) → ((disk : D) → IsTrue (honest disk) → images disk (seen disk))
+    → Opens honest seen images old bytes
     → honest new ≡ honest old → IsAmong (images new) (images old) → seen new ≡ bytes
 read_again honest seen images old new bytes law opens as_honest no_other =
-    opens.synced (seen new) (no_other (seen new) (law new (subst (λ (b : Bool). IsTrue b) (sym as_honest) opens.true_to_them)))
+    opens.synced (seen new) (no_other (seen new) (law new
+    (subst (λ (b : Bool). IsTrue b) (sym as_honest) opens.true_to_them)))
 
 -- what is read of a disk that is open over these bytes, where they are told
-pub reads_them : {D : Type 0} (honest : D → Bool) (seen : D → List ℕ) (images : D → List ℕ → Type 0) (disk : D)
-    (told : Option (List ℕ)) → IfSome told (Opens honest seen images disk) → IfSome told (λ bytes. seen disk ≡ bytes)
+pub reads_them : {D : Type 0} (honest : D → Bool) (seen : D → List ℕ)
+    (images : D → List ℕ → Type 0) (disk : D)
+    (told : Option (List ℕ)) → IfSome told (Opens honest seen images disk)
+    → IfSome told (λ bytes. seen disk ≡ bytes)
 reads_them honest seen images disk None opens = tt
 reads_them honest seen images disk (Some bytes) opens = opens.read
 
@@ -31,7 +36,8 @@ pub same_tells : (told now : Option (List ℕ)) → now ≡ told → TellsNoOthe
 same_tells None now is = tt
 same_tells (Some before) now is = subst (TellsNoOther (Some before)) (sym is) refl
 
-pub given_back : {D : Type 0} (words : DiskWords D) (folder : List ℕ) (number : ℕ) (old new : VaultTold) (disk : D)
+pub given_back : {D : Type 0} (words : DiskWords D) (folder : List ℕ) (number : ℕ)
+    (old new : VaultTold) (disk : D)
     (told : Option (List ℕ)) → TakesBack words folder number old new disk
     → IfSome told (λ bytes. words.seen disk ≡ bytes) → IsGivenBack folder number told old new
 given_back words folder number old new disk told takes was = record {

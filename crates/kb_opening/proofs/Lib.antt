@@ -6,5 +6,6 @@ mod LeftIn
 mod Opened
 mod Places
 mod Returned
+mod Served
 pub mod Unchanged
 mod Unloaded

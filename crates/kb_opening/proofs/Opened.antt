@@ -1,5 +1,6 @@
 -- One lane more is open, or the next one isn't.
-use Rattle.std.proofs.Common.{◌≡◌, ◌≢◌, ◌⊎◌, ◌<◌, ◌≤◌, ◌+◌, ℕ, true, false, Bool, List, [], ◌∷◌, ◌++◌, length, Option, Some, None, IfSome, inl, inr, arith, refl, ap, sym, subst, ◌∙◌}
+use Rattle.std.proofs.Common.{◌≡◌, ◌≢◌, ◌⊎◌, ◌<◌, ◌≤◌, ◌+◌, ℕ, true, false, Bool, List, [], ◌∷◌, ◌++◌, length}
+use Rattle.std.proofs.Common.{Option, Some, None, IfSome, inl, inr, arith, refl, ap, sym, subst, ◌∙◌}
 use Rattle.std.specs.List.{slice_get}
 use Rattle.kb_base.specs.Faults.{Rose}
 use Rattle.kb_vault.specs.Places.{is_place, SameLanes}
@@ -13,10 +14,12 @@ use Rattle.kb_lane.specs.Loads.{IsNoLane}
 use Rattle.kb_opening.specs.declared.fault.Unopened.{Unopened}
 use Rattle.kb_opening.specs.declared.fault.Unopened.TheVariants as faults
 use Rattle.kb_opening.specs.Folders.{VaultTold, DiskWords, is_among, with_lanes}
-use Rattle.kb_opening.specs.Openings.{IsOpened, AreOpened, TellsNoOther, TellsOtherLanes, IsCause, IsLaneBeside, IsFirstOfThem}
+use Rattle.kb_opening.specs.Openings.{IsOpened, AreOpened, TellsNoOther, TellsOtherLanes, IsCause}
+use Rattle.kb_opening.specs.Openings.{IsLaneBeside, IsFirstOfThem}
 use Rattle.kb_opening.specs.Private.AllLanes.{AddsLane, HasStopped}
 use Rattle.kb_opening.specs.Private.OneLane.{TakesOut, IsLeftIn, IsLaneCause}
-use Rattle.kb_opening.proofs.Amongs.{not_among, not_among_fewer, not_place, told_at, told_before, told_elsewhere, told_more}
+use Rattle.kb_opening.proofs.Amongs.{not_among, not_among_fewer, not_place, told_at, told_before}
+use Rattle.kb_opening.proofs.Amongs.{told_elsewhere, told_more}
 use Rattle.kb_opening.proofs.GivenBack.{reads_them, same_tells}
 use Rattle.kb_opening.proofs.LeftIn.{tells_lanes}
 use Rattle.kb_opening.proofs.Places.{at_snoc, length_snoc, some_at}
@@ -24,13 +27,16 @@ use Rattle.kb_opening.proofs.Places.{at_snoc, length_snoc, some_at}
 -- no lane is open yet
 pub none_open : {D G : Type 0} (words : DiskWords D) (folder : List ℕ) (count : ℕ) (old : VaultTold)
     (lanes : List (LaneValue D G)) → lanes ≡ [] → AreOpened words folder count old old lanes
-none_open {D = D} {G = G} words folder count old lanes none = subst (AreOpened words folder count old old) (sym none) (record {
-  each = λ place lane is. absurd (cc);
-  out = λ this_folder this. sym (told_before old.is_out folder 0 true this_folder this (not_among folder 0 this_folder this (omega arith)));
-  bytes = λ this_folder this. sym (told_before old.lane_bytes folder 0 None this_folder this (not_among folder 0 this_folder this (omega arith)));
-  files = λ name. refl;
-  calm = refl;
-})
+none_open {D = D} {G = G} words folder count old lanes none =
+    subst (AreOpened words folder count old old) (sym none) (record {
+      each = λ place lane is. absurd (cc);
+      out = λ this_folder this. sym (told_before old.is_out folder 0 true this_folder this
+          (not_among folder 0 this_folder this (omega arith)));
+      bytes = λ this_folder this. sym (told_before old.lane_bytes folder 0 None this_folder this
+          (not_among folder 0 this_folder this (omega arith)));
+      files = λ name. refl;
+      calm = refl;
+    })
 
 module _ {D G : Type 0} (words : DiskWords D) (folder : List ℕ) (count : ℕ) (old mid new : VaultTold)
     (lanes : List (LaneValue D G)) (so_far : AreOpened words folder count old mid lanes) where
@@ -49,10 +55,13 @@ module _ {D G : Type 0} (words : DiskWords D) (folder : List ℕ) (count : ℕ) 
       → AreOpened words folder count old new (lanes ++ lane ∷ [])
   snoc lane takes = record {
     each = λ place item is. by_place place item (at_snoc lanes lane place item is);
-    out = subst (λ (n : ℕ). SameLanes new.is_out (with_lanes old.is_out folder n true)) (sym (length_snoc lanes lane))
+    out = subst (λ (n : ℕ). SameLanes new.is_out (with_lanes old.is_out folder n true))
+        (sym (length_snoc lanes lane))
         (told_more old.is_out mid.is_out new.is_out folder (length lanes) true so_far.out takes.out);
-    bytes = subst (λ (n : ℕ). SameLanes new.lane_bytes (with_lanes old.lane_bytes folder n None)) (sym (length_snoc lanes lane))
-        (told_more old.lane_bytes mid.lane_bytes new.lane_bytes folder (length lanes) None so_far.bytes takes.bytes);
+    bytes = subst (λ (n : ℕ). SameLanes new.lane_bytes (with_lanes old.lane_bytes folder n None))
+        (sym (length_snoc lanes lane))
+        (told_more old.lane_bytes mid.lane_bytes new.lane_bytes folder (length lanes) None
+        so_far.bytes takes.bytes);
     files = λ name. takes.files name ∙ so_far.files name;
     calm = takes.calm ∙ so_far.calm;
   }
@@ -64,7 +73,8 @@ module _ {D G : Type 0} (words : DiskWords D) (folder : List ℕ) (count : ℕ) 
       by_place place item (inr (end, same)) =
           subst (λ (l : LaneValue D G). IsOpened words count place (old.lane_bytes folder place) l) same
           (subst (λ (n : ℕ). IsOpened words count n (old.lane_bytes folder n) lane) (sym end)
-          (subst (λ (b : Option (List ℕ)). IsOpened words count (length lanes) b lane) next_bytes takes.opened))
+          (subst (λ (b : Option (List ℕ)). IsOpened words count (length lanes) b lane) next_bytes
+          takes.opened))
 
   -- one lane more is open
   pub one_more_open : (more : List (LaneValue D G)) → AddsLane words folder count mid new lanes more
@@ -82,7 +92,8 @@ module _ {D G : Type 0} (words : DiskWords D) (folder : List ℕ) (count : ℕ) 
   tells left this_folder this not_there = by_place (is_place folder (length lanes) this_folder this) refl
     where
       same : mid.lane_bytes this_folder this ≡ old.lane_bytes this_folder this
-      same = so_far.bytes this_folder this ∙ told_before old.lane_bytes folder (length lanes) None this_folder this not_there
+      same = so_far.bytes this_folder this ∙ told_before old.lane_bytes folder (length lanes) None this_folder
+          this not_there
 
       by_place : (here : Bool) → is_place folder (length lanes) this_folder this ≡ here
           → TellsNoOther (old.lane_bytes this_folder this) (new.lane_bytes this_folder this)
@@ -92,18 +103,21 @@ module _ {D G : Type 0} (words : DiskWords D) (folder : List ℕ) (count : ℕ) 
           (subst (TellsNoOther (mid.lane_bytes folder (length lanes)))
           (told_at new.lane_bytes folder (length lanes) this_folder this here) left.bytes)
       by_place false here = same_tells _ _ (left.others this_folder this
-          ∙ told_elsewhere mid.lane_bytes folder (length lanes) (new.lane_bytes folder (length lanes)) this_folder this here
+          ∙ told_elsewhere mid.lane_bytes folder (length lanes) (new.lane_bytes folder (length lanes))
+          this_folder this here
           ∙ same)
 
   -- the next one can't be opened
-  pub stopped_next : length lanes < 64 → IsLeftIn folder (length lanes) mid new → HasStopped words folder old new lanes
+  pub stopped_next : length lanes < 64 → IsLeftIn folder (length lanes) mid new
+      → HasStopped words folder old new lanes
   stopped_next few left = record {
     few = few;
     out = λ this_folder this. left.out this_folder this ∙ so_far.out this_folder this;
     others = tells left;
     outside = λ this_folder this not_there.
         left.others this_folder this
-        ∙ told_elsewhere mid.lane_bytes folder (length lanes) (new.lane_bytes folder (length lanes)) this_folder this
+        ∙ told_elsewhere mid.lane_bytes folder (length lanes) (new.lane_bytes folder (length lanes))
+        this_folder this
         (not_place folder (length lanes) 64 this_folder this few not_there)
         ∙ so_far.bytes this_folder this
         ∙ told_before old.lane_bytes folder (length lanes) None this_folder this
@@ -116,7 +130,8 @@ module _ {D G : Type 0} (words : DiskWords D) (folder : List ℕ) (count : ℕ) 
   }
 
   -- the header of lane 0 tells the number of lanes
-  pub first_tells : count ≤ 64 → 0 < length lanes → IfSome (old.lane_bytes folder 0) (λ first. number_at 8 first ≡ count)
+  pub first_tells : count ≤ 64 → 0 < length lanes → IfSome (old.lane_bytes folder 0)
+      (λ first. number_at 8 first ≡ count)
   first_tells few some =
       let first = some_at lanes 0 some in
       by_told first.0 (old.lane_bytes folder 0) (so_far.each 0 first.0 first.1).stands
@@ -133,7 +148,8 @@ module _ {D G : Type 0} (words : DiskWords D) (folder : List ℕ) (count : ℕ) 
   stand_before few place inside =
       let lane = some_at lanes place inside in
       let opened = so_far.each place lane.0 lane.1 in
-      by_told lane.0.log.history (old.lane_bytes folder place) (first_tells few (omega (arith, inside))) opened.stands opened.fresh
+      by_told lane.0.log.history (old.lane_bytes folder place) (first_tells few (omega (arith, inside)))
+      opened.stands opened.fresh
     where
       by_told : (history : History) (told : Option (List ℕ))
           → IfSome (old.lane_bytes folder 0) (λ first. number_at 8 first ≡ count)
@@ -144,7 +160,8 @@ module _ {D G : Type 0} (words : DiskWords D) (folder : List ℕ) (count : ℕ) 
 
   -- so the one that is told is the first that can't be opened
   pub first_of_next : (market_mid market_new : ℕ) (fault : Unopened) → count ≤ 64
-      → IsLaneCause count (length lanes) (mid.lane_bytes folder (length lanes)) mid.faults new.faults market_mid market_new fault
+      → IsLaneCause count (length lanes) (mid.lane_bytes folder (length lanes)) mid.faults new.faults
+      market_mid market_new fault
       → IsFirstOfThem folder old fault
   first_of_next market_mid market_new faults.Disk few cause = tt
   first_of_next market_mid market_new faults.NoMemory few cause = tt
@@ -152,7 +169,8 @@ module _ {D G : Type 0} (words : DiskWords D) (folder : List ℕ) (count : ℕ) 
       λ place before. stand_before few place (subst (λ (n : ℕ). place < n) cause.0 before)
   first_of_next market_mid market_new faults.Market few cause = tt
 
-  told_lanes : (first told : Option (List ℕ)) (number at : ℕ) → IfSome first (λ bytes. number_at 8 bytes ≡ count)
+  told_lanes : (first told : Option (List ℕ)) (number at : ℕ)
+      → IfSome first (λ bytes. number_at 8 bytes ≡ count)
       → IfSome told (λ bytes. IsNoLane number bytes at ⊎ ((at ≡ 8) × (number_at 8 bytes ≢ count)))
       → IfSome told (λ bytes. IsNoLane number bytes at ⊎ ((at ≡ 8) × TellsOtherLanes first bytes))
   told_lanes first None number at is shows = tt
@@ -163,7 +181,8 @@ module _ {D G : Type 0} (words : DiskWords D) (folder : List ℕ) (count : ℕ) 
   -- its cause is the cause of all
   pub cause_of_next : (market_old market_mid market_new : ℕ) (fault : Unopened) → market_mid ≡ market_old
       → IfSome (old.lane_bytes folder 0) (λ first. number_at 8 first ≡ count)
-      → IsLaneCause count (length lanes) (mid.lane_bytes folder (length lanes)) mid.faults new.faults market_mid market_new fault
+      → IsLaneCause count (length lanes) (mid.lane_bytes folder (length lanes)) mid.faults new.faults
+      market_mid market_new fault
       → IsCause folder old new market_old market_new fault
   cause_of_next market_old market_mid market_new faults.Disk market first cause =
       (subst (λ (n : ℕ). Rose n new.faults) so_far.calm cause.0, cause.1 ∙ market)

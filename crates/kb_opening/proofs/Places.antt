@@ -1,5 +1,6 @@
 -- What is at each place of a list to which one is added.
-use Rattle.std.proofs.Common.{◌≡◌, ◌<◌, ◌+◌, ◌⊎◌, inl, inr, ℕ, zero, suc, List, [], ◌∷◌, ◌++◌, length, Some, arith, refl, ap, subst}
+use Rattle.std.proofs.Common.{◌≡◌, ◌<◌, ◌+◌, ◌⊎◌, inl, inr, ℕ, zero, suc, List, [], ◌∷◌, ◌++◌, length, Some}
+use Rattle.std.proofs.Common.{arith, refl, ap, subst}
 use Rattle.std.specs.List.{slice_get}
 
 -- it was there before, or is the one that is added
@@ -12,23 +13,27 @@ at_snoc (first ∷ items) last zero item is = inl is
 at_snoc (first ∷ items) last (suc place) item is = by_case (at_snoc items last place item is)
   where
     by_case : (slice_get items place ≡ Some item) ⊎ ((place ≡ length items) × (last ≡ item))
-        → (slice_get (first ∷ items) (suc place) ≡ Some item) ⊎ ((suc place ≡ length (first ∷ items)) × (last ≡ item))
+        → (slice_get (first ∷ items) (suc place) ≡ Some item)
+        ⊎ ((suc place ≡ length (first ∷ items)) × (last ≡ item))
     by_case (inl there) = inl there
     by_case (inr (end, same)) = inr (ap suc end, same)
 
 -- it stays
-pub at_before : {A : Type 0} (items : List A) (last : A) (place : ℕ) (item : A) → slice_get items place ≡ Some item
+pub at_before : {A : Type 0} (items : List A) (last : A) (place : ℕ) (item : A)
+    → slice_get items place ≡ Some item
     → slice_get (items ++ last ∷ []) place ≡ Some item
 at_before [] last place item is = absurd (cc)
 at_before (first ∷ items) last zero item is = is
 at_before (first ∷ items) last (suc place) item is = at_before items last place item is
 
-pub at_end : {A : Type 0} (items : List A) (last : A) → slice_get (items ++ last ∷ []) (length items) ≡ Some last
+pub at_end : {A : Type 0} (items : List A) (last : A) → slice_get (items ++ last ∷ [])
+    (length items) ≡ Some last
 at_end [] last = refl
 at_end (first ∷ items) last = at_end items last
 
 -- a place at which something is lies within the list
-pub within : {A : Type 0} (items : List A) (place : ℕ) (item : A) → slice_get items place ≡ Some item → place < length items
+pub within : {A : Type 0} (items : List A) (place : ℕ) (item : A) → slice_get items place ≡ Some item
+    → place < length items
 within [] place item is = absurd (cc)
 within (first ∷ items) zero item is = omega arith
 within (first ∷ items) (suc place) item is = let inside = within items place item is in omega (arith, inside)

@@ -25,13 +25,17 @@ module _ {D G : Type 0} (words : DiskWords D) (folder : List ℕ) (count : ℕ) 
           let at = of_folder folder (length lanes) this_folder this there in
           let lane = some_at lanes this at.1 in
           subst (λ (f : List ℕ). TellsNoOther (old.lane_bytes f this) (new.lane_bytes f this)) at.0
-          (tells_no_other (old.lane_bytes folder this) (new.lane_bytes folder this) (words.seen lane.0.log.journal.disk)
-          (reads_them words.honest words.seen words.images lane.0.log.journal.disk (old.lane_bytes folder this)
+          (tells_no_other (old.lane_bytes folder this) (new.lane_bytes folder this)
+          (words.seen lane.0.log.journal.disk)
+          (reads_them words.honest words.seen words.images lane.0.log.journal.disk
+          (old.lane_bytes folder this)
           (opened.each this lane.0 lane.1).bytes) (back.bytes this lane.0 lane.1))
       by_test false there = same_tells _ _
-          (others_as_before words folder count old mid new lanes lanes opened back refl this_folder this there)
+          (others_as_before words folder count old mid new lanes lanes opened back refl
+          this_folder this there)
 
-  pub unchanged : length lanes ≤ 64 → ((lane : ℕ) → old.is_out folder lane ≡ false) → IsAsBefore folder old new
+  pub unchanged : length lanes ≤ 64 → ((lane : ℕ) → old.is_out folder lane ≡ false)
+      → IsAsBefore folder old new
   unchanged few inside = record {
     out = as_out_as_before words folder count old mid new lanes lanes opened back refl inside;
     bytes = bytes;

@@ -1,5 +1,6 @@
 -- A lane that isn't loaded from its disk is given back.
-use Rattle.std.proofs.Common.{◌≡◌, ◌≢◌, ◌⊎◌, ◌<◌, ℕ, zero, suc, IsTrue, List, Option, Some, None, IfSome, inl, arith, refl, subst, ◌∙◌}
+use Rattle.std.proofs.Common.{◌≡◌, ◌≢◌, ◌⊎◌, ◌<◌, ℕ, zero, suc, IsTrue, List, Option, Some, None, IfSome, inl}
+use Rattle.std.proofs.Common.{arith, refl, subst, ◌∙◌}
 use Rattle.kb_base.specs.Faults.{Rose}
 use Rattle.kb_disk.specs.Images.{IsAmong}
 use Rattle.kb_vault.specs.Vaults.{Opens}

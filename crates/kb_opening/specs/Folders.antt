@@ -1,5 +1,6 @@
 -- What is told of a vault's folders and of the disks of their lanes.
-use Rattle.std.specs.Prelude.{ℕ, ◌≡◌, ◌&&◌, Bool, true, false, if◌then◌else◌, List, codes, bytes_eq, nat_lt, Option, refl}
+use Rattle.std.specs.Prelude.{ℕ, ◌≡◌, ◌&&◌, Bool, true, false, if◌then◌else◌, List, codes, bytes_eq, nat_lt}
+use Rattle.std.specs.Prelude.{Option, refl}
 
 -- What is told of a vault: which lanes are out, the bytes of lanes and of texts, and how many calls have
 -- failed.
@@ -42,7 +43,8 @@ no_lane_3_of_three = refl
 
 -- what is told of each lane, but for the first of this folder, of each of which this is told
 abbrev pub with_lanes : {A : Type 0} → (List ℕ → ℕ → A) → List ℕ → ℕ → A → List ℕ → ℕ → A
-with_lanes told this_folder count now folder lane = if is_among this_folder count folder lane then now else told folder lane
+with_lanes told this_folder count now folder lane = if is_among this_folder count folder lane then now else
+    told folder lane
 
 two_are_out : with_lanes (λ folder lane. false) (codes "shop") 2 true (codes "shop") 1 ≡ true
 two_are_out = refl

@@ -46,6 +46,11 @@ pub record AreOpened {D G : Type 0} (words : DiskWords D) (folder : List ℕ) (c
   pub files : SameFiles new.file_bytes old.file_bytes
   pub calm : new.faults ≡ old.faults
 
+-- the gateway of each lane serves the lane of its place
+abbrev pub AreServed : {D G : Type 0} → (G → ℕ → Type 0) → List (LaneValue D G) → Type 0
+AreServed serves lanes = (place : ℕ) (lane : LaneValue _ _) → slice_get lanes place ≡ Some lane
+    → serves lane.gateway place
+
 -- Lanes of a folder were given back, the one at each place as that of its number: none of them is out any
 -- more, and each has the bytes that its disk reads, which stand for its log if the disk is honest. A disk
 -- that has failed, as that of a lane that has stopped, raises the vault's count; if none has, the count

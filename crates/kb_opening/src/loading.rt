@@ -30,6 +30,7 @@ pub(crate) fn open_lane<V: Vault, M: Market>(
         (told_of V.is_out V.lane_bytes V.file_bytes V.faults vault.new) lane) }
     ensures some_lanes { IfOk result (λ lane. 1 ≤ lane.log.journal.lanes) }
     ensures few_lanes { IfOk result (λ lane. lane.log.journal.lanes ≤ 64) }
+    ensures served { IfOk result (λ lane. M.serves lane.gateway gateway.now number) }
     ensures calm { OnOk result (M.faults market.new ≡ M.faults market.old) }
     ensures rising { M.faults market.old ≤ M.faults market.new }
     ensures refused { (count : ℕ) → IfErr result (IsRefused folder.now count number
@@ -63,6 +64,7 @@ fn make_lane<V: Vault, M: Market>(
         (told_of V.is_out V.lane_bytes V.file_bytes V.faults vault.new) lane) }
     ensures some_lanes { IfOk result (λ lane. 1 ≤ lane.log.journal.lanes) }
     ensures few_lanes { IfOk result (λ lane. lane.log.journal.lanes ≤ 64) }
+    ensures served { IfOk result (λ lane. M.serves lane.gateway gateway.now number) }
     ensures calm { OnOk result (M.faults market.new ≡ M.faults market.old) }
     ensures rising { M.faults market.old ≤ M.faults market.new }
     ensures refused { (count : ℕ) (told : Option (List ℕ)) → IfSome told
@@ -100,6 +102,7 @@ fn load_lane<V: Vault, G: Gateway + Drop>(
         (told_of V.is_out V.lane_bytes V.file_bytes V.faults vault.new) lane) }
     ensures some_lanes { IfOk result (λ lane. 1 ≤ lane.log.journal.lanes) }
     ensures few_lanes { IfOk result (λ lane. lane.log.journal.lanes ≤ 64) }
+    ensures gateway { IfOk result (λ lane. lane.gateway ≡ gateway) }
     ensures refused { (count : ℕ) (told : Option (List ℕ)) (market : ℕ) → IfSome told
         (Opens V.Disk.honest V.Disk.seen V.Disk.images disk)
         → IfErr result (IsUnmade folder.now count number told
@@ -128,6 +131,7 @@ fn load_on<D: Disk, G: Gateway + Drop>(
         lane.log.journal.lanes number told lane) }
     ensures some_lanes { IfOk result (λ lane. 1 ≤ lane.log.journal.lanes) }
     ensures few_lanes { IfOk result (λ lane. lane.log.journal.lanes ≤ 64) }
+    ensures gateway { IfOk result (λ lane. lane.gateway ≡ gateway) }
     ensures refused { (count : ℕ) (told : Option (List ℕ)) → IfSome told (Opens D.honest D.seen D.images disk)
         → IfErr result (λ refused. IsUnloaded (words_of D.honest D.seen D.images D.fault_count)
         count number told refused.0 refused.1) }

@@ -1,8 +1,9 @@
 //! All lanes of a folder, opened.
-ghost use Rattle.std.specs.Prelude.{◌≡◌, ◌≤◌, ◌≢◌, ℕ, [], ◌∷◌, ◌++◌, IfOk, IfErr, OnOk, OnErr, true, false, length};
+ghost use Rattle.std.specs.Prelude.{◌≡◌, ◌≤◌, ◌≢◌, ℕ, [], ◌∷◌, ◌++◌, IfOk, IfErr, OnOk, OnErr, true, false};
+ghost use Rattle.std.specs.Prelude.{length};
 ghost use Rattle.kb_opening.specs.declared.fault.Unopened.TheVariants as faults;
 ghost use Rattle.kb_opening.specs.Folders.{told_of, words_of};
-ghost use Rattle.kb_opening.specs.Openings.{AreOpened, IsAsBefore, IsCause, IsFirstOfThem};
+ghost use Rattle.kb_opening.specs.Openings.{AreOpened, AreServed, IsAsBefore, IsCause, IsFirstOfThem};
 ghost use Rattle.kb_opening.specs.Private.AllLanes.{AddsLane, HasStopped};
 ghost use Rattle.kb_opening.specs.Private.OneLane.{IsRefused, TakesBack, TakesOut};
 
@@ -31,6 +32,8 @@ pub fn open_lanes<V: Vault, M: Market>(
         (told_of V.is_out V.lane_bytes V.file_bytes V.faults vault.new) lanes.items) }
     ensures some { IfOk result (λ lanes. 1 ≤ length lanes.items) }
     ensures few { IfOk result (λ lanes. length lanes.items ≤ 64) }
+    ensures served { IfOk result (λ lanes. AreServed
+        (λ made place. M.serves made gateway.now place) lanes.items) }
     ensures calm { OnOk result (M.faults market.new ≡ M.faults market.old) }
     ensures rising { M.faults market.old ≤ M.faults market.new }
     ensures left { OnErr result (IsAsBefore folder.now
@@ -71,6 +74,8 @@ fn open_all<V: Vault, M: Market>(
         (told_of V.is_out V.lane_bytes V.file_bytes V.faults vault.new) lanes.new.items) }
     ensures some { OnOk result (1 ≤ length lanes.new.items) }
     ensures few { OnOk result (length lanes.new.items ≤ 64) }
+    ensures served { OnOk result (AreServed
+        (λ made place. M.serves made gateway.now place) lanes.new.items) }
     ensures calm { OnOk result (M.faults market.new ≡ M.faults market.old) }
     ensures rising { M.faults market.old ≤ M.faults market.new }
     ensures stopped { OnErr result (HasStopped
@@ -115,6 +120,8 @@ fn open_first<V: Vault, M: Market>(
         (told_of V.is_out V.lane_bytes V.file_bytes V.faults vault.new) lanes.old.items lanes.new.items) }
     ensures some { IfOk result (λ count. 1 ≤ count) }
     ensures few { IfOk result (λ count. count ≤ 64) }
+    ensures served { OnOk result (AreServed
+        (λ made place. M.serves made gateway.now place) lanes.new.items) }
     ensures calm { OnOk result (M.faults market.new ≡ M.faults market.old) }
     ensures rising { M.faults market.old ≤ M.faults market.new }
     ensures same { OnErr result (lanes.new.items ≡ lanes.old.items) }
@@ -153,6 +160,8 @@ fn open_next<V: Vault, M: Market>(
         folder.now count
         (told_of V.is_out V.lane_bytes V.file_bytes V.faults vault.old)
         (told_of V.is_out V.lane_bytes V.file_bytes V.faults vault.new) lanes.old.items lanes.new.items) }
+    ensures served { AreServed (λ made place. M.serves made gateway.now place) lanes.old.items
+        → OnOk result (AreServed (λ made place. M.serves made gateway.now place) lanes.new.items) }
     ensures calm { OnOk result (M.faults market.new ≡ M.faults market.old) }
     ensures rising { M.faults market.old ≤ M.faults market.new }
     ensures same { OnErr result (lanes.new.items ≡ lanes.old.items) }
@@ -183,6 +192,7 @@ fn open_one_of<V: Vault, M: Market>(
         folder.now count number
         (told_of V.is_out V.lane_bytes V.file_bytes V.faults vault.old)
         (told_of V.is_out V.lane_bytes V.file_bytes V.faults vault.new)) }
+    ensures served { IfOk result (λ lane. M.serves lane.gateway gateway.now number) }
     ensures calm { OnOk result (M.faults market.new ≡ M.faults market.old) }
     ensures rising { M.faults market.old ≤ M.faults market.new }
     ensures refused { IfErr result (IsRefused folder.now count number

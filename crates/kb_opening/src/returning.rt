@@ -40,7 +40,8 @@ pub(crate) fn give_back<V: Vault, G: Gateway + Drop>(
     lane: Lane<V::Disk, G>,
 )
     requires outside { V.is_out vault.old folder.now number ≡ true }
-    ensures back { TakesBack (words_of V.Disk.honest V.Disk.seen V.Disk.images V.Disk.fault_count) folder.now number
+    ensures back { TakesBack (words_of V.Disk.honest V.Disk.seen V.Disk.images V.Disk.fault_count)
+        folder.now number
         (told_of V.is_out V.lane_bytes V.file_bytes V.faults vault.old)
         (told_of V.is_out V.lane_bytes V.file_bytes V.faults vault.new) lane.log.journal.disk }
     ensures stands { IsTrue (V.Disk.honest lane.log.journal.disk)

@@ -10,7 +10,8 @@ use Rattle.kb_opening.specs.Openings.{AreBack, AskedOnceEach}
 
 -- The lines of the input are answered by lanes that are open, and their disks are given back.
 pub record RunsOpen {D G C : Type 0} (words : DiskWords D) (outside : Outside D G C) (folder : List ℕ)
-    (first : List (LaneValue D G)) (clock : C) (old new : VaultTold) (left left_after written written_after : Known)
+    (first : List (LaneValue D G)) (clock : C) (old new : VaultTold)
+    (left left_after written written_after : Known)
     (outcome : Result (Unit {0}) ApplyStop) : Type 0 where
   pub last : LanesValue D G C
   pub ran : Applies (lanes_machine outside) (record { lanes = first; clock = clock; full = false })

@@ -33,13 +33,16 @@ pub fn apply_folder<I: Source, O: Sink, V: Vault, M: Market, C: Clock + Drop>(
 ) -> Result<(), Stop>
     requires inside { (lane : ℕ) → V.is_out vault.old folder.now lane ≡ false }
     ensures applied { AppliesFolder (words_of V.Disk.honest V.Disk.seen V.Disk.images V.Disk.fault_count)
-        (outside_of V.Disk.honest V.Disk.moment V.Disk.left_since V.Disk.fault_count M.Gateway.asked M.Gateway.said
-        M.Gateway.faults C.day) folder.now clock
+        (outside_of V.Disk.honest V.Disk.moment V.Disk.left_since V.Disk.fault_count M.Gateway.asked
+        M.Gateway.said
+        M.Gateway.faults C.day) (λ made place. M.serves made gateway.now place) folder.now clock
         (told_of V.is_out V.lane_bytes V.file_bytes V.faults vault.old)
-        (told_of V.is_out V.lane_bytes V.file_bytes V.faults vault.new) (M.faults market.old) (M.faults market.new)
+        (told_of V.is_out V.lane_bytes V.file_bytes V.faults vault.new) (M.faults market.old)
+        (M.faults market.new)
         (I.left input.old) (I.left input.new) (O.written output.old) (O.written output.new) result }
     ensures input_fault { result ≡ Err (stops.Run Input) → Rose (I.faults input.old) (I.faults input.new) }
-    ensures output_fault { result ≡ Err (stops.Run Output) → Rose (O.faults output.old) (O.faults output.new) }
+    ensures output_fault { result ≡ Err (stops.Run Output)
+        → Rose (O.faults output.old) (O.faults output.new) }
     ensures output_rising { O.faults output.old ≤ O.faults output.new }
 {
     match open_lanes(alloc, vault, market, folder, gateway) {
@@ -62,7 +65,8 @@ fn run_open<I: Source, O: Sink, V: Vault, G: Gateway + Drop, C: Clock + Drop>(
     requires few { length lanes.items ≤ 64 }
     requires outside { (place : ℕ) → place < length lanes.items → V.is_out vault.old folder.now place ≡ true }
     ensures ran { RunsOpen (words_of V.Disk.honest V.Disk.seen V.Disk.images V.Disk.fault_count)
-        (outside_of V.Disk.honest V.Disk.moment V.Disk.left_since V.Disk.fault_count G.asked G.said G.faults C.day)
+        (outside_of V.Disk.honest V.Disk.moment V.Disk.left_since V.Disk.fault_count G.asked G.said
+        G.faults C.day)
         folder.now lanes.items clock
         (told_of V.is_out V.lane_bytes V.file_bytes V.faults vault.old)
         (told_of V.is_out V.lane_bytes V.file_bytes V.faults vault.new)

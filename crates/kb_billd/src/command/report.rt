@@ -34,7 +34,8 @@ pub fn report_folder<O: Sink, V: Vault>(
     vault: &mut V,
 ) -> Result<(), Stop>
     requires inside { (lane : ℕ) → V.is_out vault.old folder.now lane ≡ false }
-    ensures reported { ReportsFolder (words_of V.Disk.honest V.Disk.seen V.Disk.images V.Disk.fault_count) folder.now
+    ensures reported { ReportsFolder (words_of V.Disk.honest V.Disk.seen V.Disk.images V.Disk.fault_count)
+        folder.now
         (said_by kind day)
         (told_of V.is_out V.lane_bytes V.file_bytes V.faults vault.old)
         (told_of V.is_out V.lane_bytes V.file_bytes V.faults vault.new)

@@ -29,17 +29,20 @@ pub record TakesBack {D : Type 0} (words : DiskWords D) (folder : List ℕ) (num
     (disk : D) : Type 0 where
   pub inside : SameLanes new.is_out (with_lane old.is_out folder number false)
   pub bytes : IfSome (new.lane_bytes folder number) (λ bytes. bytes ≡ words.seen disk)
-  pub others : SameLanes new.lane_bytes (with_lane old.lane_bytes folder number (new.lane_bytes folder number))
+  pub others : SameLanes new.lane_bytes (with_lane old.lane_bytes folder number
+      (new.lane_bytes folder number))
   pub files : SameFiles new.file_bytes old.file_bytes
   pub risen : 0 < words.fault_count disk → Rose old.faults new.faults
   pub calm : words.fault_count disk ≡ 0 → new.faults ≡ old.faults
   pub rising : old.faults ≤ new.faults
 
 -- A lane that was taken out, where these were its bytes, is back without other ones.
-pub record IsGivenBack (folder : List ℕ) (number : ℕ) (told : Option (List ℕ)) (old new : VaultTold) : Type 0 where
+pub record IsGivenBack (folder : List ℕ) (number : ℕ) (told : Option (List ℕ))
+    (old new : VaultTold) : Type 0 where
   pub inside : SameLanes new.is_out (with_lane old.is_out folder number false)
   pub bytes : TellsNoOther told (new.lane_bytes folder number)
-  pub others : SameLanes new.lane_bytes (with_lane old.lane_bytes folder number (new.lane_bytes folder number))
+  pub others : SameLanes new.lane_bytes (with_lane old.lane_bytes folder number
+      (new.lane_bytes folder number))
   pub files : SameFiles new.file_bytes old.file_bytes
   pub rising : old.faults ≤ new.faults
 
@@ -47,7 +50,8 @@ pub record IsGivenBack (folder : List ℕ) (number : ℕ) (told : Option (List �
 pub record IsLeftIn (folder : List ℕ) (number : ℕ) (old new : VaultTold) : Type 0 where
   pub out : SameLanes new.is_out old.is_out
   pub bytes : TellsNoOther (old.lane_bytes folder number) (new.lane_bytes folder number)
-  pub others : SameLanes new.lane_bytes (with_lane old.lane_bytes folder number (new.lane_bytes folder number))
+  pub others : SameLanes new.lane_bytes (with_lane old.lane_bytes folder number
+      (new.lane_bytes folder number))
   pub files : SameFiles new.file_bytes old.file_bytes
   pub rising : old.faults ≤ new.faults
 
@@ -86,4 +90,5 @@ IsUnmade folder count number told old new market_old market_new fault =
 abbrev pub IsRefused : List ℕ → ℕ → ℕ → VaultTold → VaultTold → ℕ → ℕ → Unopened → Type 0
 IsRefused folder count number old new market_old market_new fault =
     IsLeftIn folder number old new
-    × IsLaneCause count number (old.lane_bytes folder number) old.faults new.faults market_old market_new fault
+    × IsLaneCause count number (old.lane_bytes folder number) old.faults new.faults market_old
+    market_new fault

@@ -23,46 +23,59 @@ returns-clause-input g c = λ is. c.begin-run.ensures.input (c.close.ensures.tel
 pub returns-clause-output : goal.returns-clause-output
 returns-clause-output g c = λ is. rose_over (g.O.Sink.faults c.args.output.now)
     (g.O.Sink.faults c.begin-run.new.output) (g.O.Sink.faults c.close.new.output)
-    (c.begin-run.result ≡ Err (stops.Run runs.Output)) c.begin-run.ensures.output_rising c.close.ensures.rising
+    (c.begin-run.result ≡ Err (stops.Run runs.Output)) c.begin-run.ensures.output_rising
+    c.close.ensures.rising
     c.begin-run.ensures.output (c.close.ensures.cause is)
 
 pub returns-clause-inside : goal.returns-clause-inside
-returns-clause-inside g c = begins_inside (words_of g.V.Disk.Disk.honest g.V.Disk.Disk.seen g.V.Disk.Disk.images g.V.Disk.Disk.fault_count)
+returns-clause-inside g c = begins_inside (words_of g.V.Disk.Disk.honest g.V.Disk.Disk.seen
+    g.V.Disk.Disk.images g.V.Disk.Disk.fault_count)
     (outside_of g.V.Disk.Disk.honest g.V.Disk.Disk.moment g.V.Disk.Disk.left_since
     g.V.Disk.Disk.fault_count g.M.Gateway.Gateway.asked g.M.Gateway.Gateway.said g.M.Gateway.Gateway.faults
     g.C.Clock.day)
-    (alone g.V.Disk.Disk.honest g.V.Disk.Disk.moment g.V.Disk.Disk.left_since g.V.Disk.Disk.fault_count g.C.Clock.day) c.args.clock
+    (alone g.V.Disk.Disk.honest g.V.Disk.Disk.moment g.V.Disk.Disk.left_since g.V.Disk.Disk.fault_count
+    g.C.Clock.day) g.M.Market.serves c.args.clock
     (around_of (g.I.Source.left c.args.input.now) (g.O.Sink.written c.args.output.now)
-    (told_of g.V.Vault.is_out g.V.Vault.lane_bytes g.V.Vault.file_bytes g.V.Vault.faults c.args.vault.now) (g.M.Market.faults c.args.market.now))
+    (told_of g.V.Vault.is_out g.V.Vault.lane_bytes g.V.Vault.file_bytes g.V.Vault.faults c.args.vault.now)
+    (g.M.Market.faults c.args.market.now))
     (around_of (g.I.Source.left c.begin-run.new.input) (g.O.Sink.written c.begin-run.new.output)
-    (told_of g.V.Vault.is_out g.V.Vault.lane_bytes g.V.Vault.file_bytes g.V.Vault.faults c.begin-run.new.vault) (g.M.Market.faults c.begin-run.new.market))
+    (told_of g.V.Vault.is_out g.V.Vault.lane_bytes g.V.Vault.file_bytes g.V.Vault.faults
+    c.begin-run.new.vault) (g.M.Market.faults c.begin-run.new.market))
     c.begin-run.result (words_of_grammar (map string_bytes c.args.words.now.items))
     c.begin-run.ensures.begins
 
 pub returns-clause-disk : goal.returns-clause-disk
-returns-clause-disk g c = λ is. begins_disk (words_of g.V.Disk.Disk.honest g.V.Disk.Disk.seen g.V.Disk.Disk.images g.V.Disk.Disk.fault_count)
+returns-clause-disk g c = λ is. begins_disk (words_of g.V.Disk.Disk.honest g.V.Disk.Disk.seen
+    g.V.Disk.Disk.images g.V.Disk.Disk.fault_count)
     (outside_of g.V.Disk.Disk.honest g.V.Disk.Disk.moment g.V.Disk.Disk.left_since
     g.V.Disk.Disk.fault_count g.M.Gateway.Gateway.asked g.M.Gateway.Gateway.said g.M.Gateway.Gateway.faults
     g.C.Clock.day)
-    (alone g.V.Disk.Disk.honest g.V.Disk.Disk.moment g.V.Disk.Disk.left_since g.V.Disk.Disk.fault_count g.C.Clock.day) c.args.clock
+    (alone g.V.Disk.Disk.honest g.V.Disk.Disk.moment g.V.Disk.Disk.left_since g.V.Disk.Disk.fault_count
+    g.C.Clock.day) g.M.Market.serves c.args.clock
     (around_of (g.I.Source.left c.args.input.now) (g.O.Sink.written c.args.output.now)
-    (told_of g.V.Vault.is_out g.V.Vault.lane_bytes g.V.Vault.file_bytes g.V.Vault.faults c.args.vault.now) (g.M.Market.faults c.args.market.now))
+    (told_of g.V.Vault.is_out g.V.Vault.lane_bytes g.V.Vault.file_bytes g.V.Vault.faults c.args.vault.now)
+    (g.M.Market.faults c.args.market.now))
     (around_of (g.I.Source.left c.begin-run.new.input) (g.O.Sink.written c.begin-run.new.output)
-    (told_of g.V.Vault.is_out g.V.Vault.lane_bytes g.V.Vault.file_bytes g.V.Vault.faults c.begin-run.new.vault) (g.M.Market.faults c.begin-run.new.market))
+    (told_of g.V.Vault.is_out g.V.Vault.lane_bytes g.V.Vault.file_bytes g.V.Vault.faults
+    c.begin-run.new.vault) (g.M.Market.faults c.begin-run.new.market))
     c.begin-run.result (words_of_grammar (map string_bytes c.args.words.now.items))
     c.begin-run.ensures.begins
     (c.close.ensures.tells.disk is)
 
 pub returns-clause-market : goal.returns-clause-market
-returns-clause-market g c = λ is. begins_market (words_of g.V.Disk.Disk.honest g.V.Disk.Disk.seen g.V.Disk.Disk.images g.V.Disk.Disk.fault_count)
+returns-clause-market g c = λ is. begins_market (words_of g.V.Disk.Disk.honest g.V.Disk.Disk.seen
+    g.V.Disk.Disk.images g.V.Disk.Disk.fault_count)
     (outside_of g.V.Disk.Disk.honest g.V.Disk.Disk.moment g.V.Disk.Disk.left_since
     g.V.Disk.Disk.fault_count g.M.Gateway.Gateway.asked g.M.Gateway.Gateway.said g.M.Gateway.Gateway.faults
     g.C.Clock.day)
-    (alone g.V.Disk.Disk.honest g.V.Disk.Disk.moment g.V.Disk.Disk.left_since g.V.Disk.Disk.fault_count g.C.Clock.day) c.args.clock
+    (alone g.V.Disk.Disk.honest g.V.Disk.Disk.moment g.V.Disk.Disk.left_since g.V.Disk.Disk.fault_count
+    g.C.Clock.day) g.M.Market.serves c.args.clock
     (around_of (g.I.Source.left c.args.input.now) (g.O.Sink.written c.args.output.now)
-    (told_of g.V.Vault.is_out g.V.Vault.lane_bytes g.V.Vault.file_bytes g.V.Vault.faults c.args.vault.now) (g.M.Market.faults c.args.market.now))
+    (told_of g.V.Vault.is_out g.V.Vault.lane_bytes g.V.Vault.file_bytes g.V.Vault.faults c.args.vault.now)
+    (g.M.Market.faults c.args.market.now))
     (around_of (g.I.Source.left c.begin-run.new.input) (g.O.Sink.written c.begin-run.new.output)
-    (told_of g.V.Vault.is_out g.V.Vault.lane_bytes g.V.Vault.file_bytes g.V.Vault.faults c.begin-run.new.vault) (g.M.Market.faults c.begin-run.new.market))
+    (told_of g.V.Vault.is_out g.V.Vault.lane_bytes g.V.Vault.file_bytes g.V.Vault.faults
+    c.begin-run.new.vault) (g.M.Market.faults c.begin-run.new.market))
     c.begin-run.result (words_of_grammar (map string_bytes c.args.words.now.items))
     c.begin-run.ensures.begins
     (c.close.ensures.tells.market is)

@@ -10,7 +10,8 @@ invariant-loop-lane g l =
     (l.yielded ++ into_iter_items l.lane-iterator ≡ into_iter_items l.initial.lane-iterator)
     × (into_iter_len l.lane-iterator ≡ length (into_iter_items l.lane-iterator))
     × (length l.yielded ≡ l.number)
-    × AreBack (words_of g.V.Disk.Disk.honest g.V.Disk.Disk.seen g.V.Disk.Disk.images g.V.Disk.Disk.fault_count) l.folder
+    × AreBack (words_of g.V.Disk.Disk.honest g.V.Disk.Disk.seen g.V.Disk.Disk.images
+    g.V.Disk.Disk.fault_count) l.folder
     (told_of g.V.Vault.is_out g.V.Vault.lane_bytes g.V.Vault.file_bytes g.V.Vault.faults l.fn.vault)
     (told_of g.V.Vault.is_out g.V.Vault.lane_bytes g.V.Vault.file_bytes g.V.Vault.faults l.vault) l.yielded
     × AskedOnceEach g.G.Gateway.asked l.yielded

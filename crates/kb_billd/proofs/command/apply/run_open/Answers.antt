@@ -8,7 +8,8 @@ use Rattle.kb_billd.proofs.command.apply.run_open.Goals as goal
 
 pub put_back-requires-clause-few : goal.put_back-requires-clause-few
 put_back-requires-clause-few g c κs within =
-    let many = ap length c.into_lanes.ensures ∙ as_many (outside_of g.V.Disk.Disk.honest g.V.Disk.Disk.moment g.V.Disk.Disk.left_since
+    let many = ap length c.into_lanes.ensures ∙ as_many
+    (outside_of g.V.Disk.Disk.honest g.V.Disk.Disk.moment g.V.Disk.Disk.left_since
     g.V.Disk.Disk.fault_count g.G.Gateway.asked g.G.Gateway.said g.G.Gateway.faults g.C.Clock.day)
     c.new-lanes.result (g.I.Source.left c.args.input.now)
     (g.I.Source.left c.apply_lanes-outcome.new.input) (g.O.Sink.written c.args.output.now)
@@ -19,7 +20,8 @@ put_back-requires-clause-few g c κs within =
 
 pub put_back-requires-clause-outside : goal.put_back-requires-clause-outside
 put_back-requires-clause-outside g c κs within place less =
-    let many = ap length c.into_lanes.ensures ∙ as_many (outside_of g.V.Disk.Disk.honest g.V.Disk.Disk.moment g.V.Disk.Disk.left_since
+    let many = ap length c.into_lanes.ensures ∙ as_many
+    (outside_of g.V.Disk.Disk.honest g.V.Disk.Disk.moment g.V.Disk.Disk.left_since
     g.V.Disk.Disk.fault_count g.G.Gateway.asked g.G.Gateway.said g.G.Gateway.faults g.C.Clock.day)
     c.new-lanes.result (g.I.Source.left c.args.input.now)
     (g.I.Source.left c.apply_lanes-outcome.new.input) (g.O.Sink.written c.args.output.now)
@@ -31,7 +33,8 @@ put_back-requires-clause-outside g c κs within place less =
 pub returns-clause-ran : goal.returns-clause-ran
 returns-clause-ran g c = record {
   last = c.apply_lanes-outcome.new.lanes;
-  ran = subst (λ begun. Applies (lanes_machine (outside_of g.V.Disk.Disk.honest g.V.Disk.Disk.moment g.V.Disk.Disk.left_since
+  ran = subst (λ begun. Applies (lanes_machine (outside_of g.V.Disk.Disk.honest g.V.Disk.Disk.moment
+      g.V.Disk.Disk.left_since
       g.V.Disk.Disk.fault_count g.G.Gateway.asked g.G.Gateway.said g.G.Gateway.faults g.C.Clock.day)) begun
       (g.I.Source.left c.args.input.now)
       (g.I.Source.left c.apply_lanes-outcome.new.input) (g.O.Sink.written c.args.output.now)
@@ -39,8 +42,10 @@ returns-clause-ran g c = record {
       c.apply_lanes-outcome.new.lanes c.apply_lanes-outcome.result)
       (begun_is c.new-lanes.result c.args.lanes.items c.args.clock c.new-lanes.ensures.lanes
       c.new-lanes.ensures.clock c.new-lanes.ensures.full) c.apply_lanes-outcome.ensures.applied;
-  back = subst (AreBack (words_of g.V.Disk.Disk.honest g.V.Disk.Disk.seen g.V.Disk.Disk.images g.V.Disk.Disk.fault_count) c.args.folder.now
+  back = subst (AreBack (words_of g.V.Disk.Disk.honest g.V.Disk.Disk.seen g.V.Disk.Disk.images
+      g.V.Disk.Disk.fault_count) c.args.folder.now
       (told_of g.V.Vault.is_out g.V.Vault.lane_bytes g.V.Vault.file_bytes g.V.Vault.faults c.args.vault.now)
-      (told_of g.V.Vault.is_out g.V.Vault.lane_bytes g.V.Vault.file_bytes g.V.Vault.faults c.put_back.new.vault)) c.into_lanes.ensures c.put_back.ensures.back;
+      (told_of g.V.Vault.is_out g.V.Vault.lane_bytes g.V.Vault.file_bytes g.V.Vault.faults
+      c.put_back.new.vault)) c.into_lanes.ensures c.put_back.ensures.back;
   once = subst (AskedOnceEach g.G.Gateway.asked) c.into_lanes.ensures c.put_back.ensures.once;
 }

@@ -6,8 +6,10 @@ pub returns : goal.returns
 returns g c = record {
   ended = c.found_lanes.result;
   told = c.outcome_of.ensures;
-  made = made_by c.args.today c.args.init.now (told_of g.V.Vault.is_out g.V.Vault.lane_bytes g.V.Vault.file_bytes g.V.Vault.faults c.args.vault.now)
-      (told_of g.V.Vault.is_out g.V.Vault.lane_bytes g.V.Vault.file_bytes g.V.Vault.faults c.found_lanes.new.vault) c.found_lanes.result
+  made = made_by c.args.today c.args.init.now (told_of g.V.Vault.is_out g.V.Vault.lane_bytes
+      g.V.Vault.file_bytes g.V.Vault.faults c.args.vault.now)
+      (told_of g.V.Vault.is_out g.V.Vault.lane_bytes g.V.Vault.file_bytes g.V.Vault.faults
+      c.found_lanes.new.vault) c.found_lanes.result
       (rw (c.as_str.ensures, c.get.ensures.value, c.as_str-2.ensures, c.as_str-3.ensures)
       at c.found_lanes.ensures.founded) c.found_lanes.ensures.untouched
       (rw (c.as_str.ensures, c.get.ensures.value) at c.found_lanes.ensures.not_empty)
