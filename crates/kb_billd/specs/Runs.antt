@@ -4,7 +4,7 @@ use Rattle.std.specs.Prelude.{IfSome}
 use Rattle.std.specs.Prelude.{Result, Ok, Err}
 use Rattle.std.specs.Io.KnownBytes.{Keeps}
 use Rattle.kb_base.specs.Faults.{Rose}
-use Rattle.kb_vault.specs.Places.{SameLanes, SameFiles}
+use Rattle.kb_vault.specs.Places.{is_among, SameLanes, SameFiles}
 use Rattle.kb_gateway.specs.declared.order.Asked.{Asked}
 use Rattle.kb_log.specs.Logs.{StandsForLog}
 use Rattle.kb_versions.specs.BilledNow.{AreBilledNow}
@@ -20,7 +20,7 @@ use Rattle.kb_apply.specs.Continuing.{Continues, ContinueAll}
 use Rattle.kb_apply.specs.LaneRuns.{LanesValue, Outside, lanes_machine}
 use Rattle.kb_opening.specs.declared.fault.Unopened.{Unopened}
 use Rattle.kb_opening.specs.declared.fault.Unopened.TheVariants as unopened
-use Rattle.kb_opening.specs.Folders.{VaultTold, DiskWords, is_among}
+use Rattle.kb_opening.specs.Folders.{VaultTold, DiskWords}
 use Rattle.kb_opening.specs.Openings.{AreServed, IsOpened, IsAsBefore, IsCause, IsFirstOfThem}
 use Rattle.kb_endings.specs.declared.stop.Stop.{Stop}
 use Rattle.kb_endings.specs.declared.stop.Stop.TheVariants as stops

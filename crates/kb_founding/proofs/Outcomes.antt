@@ -7,12 +7,12 @@ use Rattle.std.proofs.lemmas.Bool.Decides.{nat_tests}
 use Rattle.kb_catalog_text.specs.declared.fault.TextFault.{TextFault}
 use Rattle.kb_catalog_text.specs.Texts.{CatalogText, OverdueText}
 use Rattle.kb_log.specs.Entries.{payloads}
-use Rattle.kb_vault.specs.Places.{SameLanes}
+use Rattle.kb_vault.specs.Places.{is_among, SameLanes}
 use Rattle.kb_founding.specs.declared.fault.Unfounded.{Unfounded}
 use Rattle.kb_founding.specs.declared.fault.Unfounded.TheVariants as faults
 use Rattle.kb_founding.specs.Foundings.{Bytes, FoundsFirst, FoundsWith, IsLeft, AreTextsOf, SameFrom}
 use Rattle.kb_founding.specs.Foundings.{TellsFault}
-use Rattle.kb_founding.specs.Foundings.{first_commands, is_among, text_fault}
+use Rattle.kb_founding.specs.Foundings.{first_commands, text_fault}
 use Rattle.kb_founding.specs.Private.Runs.{Founds}
 
 -- what isn't among more lanes isn't among fewer

@@ -1,6 +1,5 @@
 -- How the lanes of a folder are made, each with the same two texts.
-use Rattle.std.specs.Prelude.{ℕ, ◌≡◌, ◌<◌, nat_lt, ◌&&◌, Bool, true, false, List, [], ◌∷◌, length, take}
-use Rattle.std.specs.Prelude.{codes, bytes_eq}
+use Rattle.std.specs.Prelude.{ℕ, ◌≡◌, ◌<◌, false, List, [], ◌∷◌, length, take, codes}
 use Rattle.std.specs.Prelude.{Option, Some, None, IfSome, Result, Ok, Err, ⊤, refl}
 use Rattle.std.specs.Str.{is_utf8, chars}
 use Rattle.toml.proofs.OnLiterals.{toml_on_literals}
@@ -15,6 +14,7 @@ use Rattle.kb_codec.specs.declared.command.Command.TheVariants as kinds
 use Rattle.kb_codec.specs.Commands.{IsCatalogText, IsOverdueText}
 use Rattle.kb_journal.specs.Format.{StandsFor}
 use Rattle.kb_log.specs.Entries.{History, payloads}
+use Rattle.kb_vault.specs.Places.{is_among}
 use Rattle.kb_vault.specs.declared.fault.FileFault.{FileFault}
 use Rattle.kb_vault.specs.declared.fault.FileFault.TheVariants as files
 use Rattle.kb_vault.specs.declared.vault.TheConstants.{MAX_FILE}
@@ -101,13 +101,6 @@ pub record IsFounded (lanes lane : ℕ) (records : List (List ℕ)) (old new : O
 pub record IsLeft (old new : Option (List ℕ)) : Type 0 where
   pub some : IfSome old (λ before. 0 < length before)
   pub same : WhereTold old new (λ before after. after ≡ before)
-
--- whether a lane is among the first so many of a folder
-abbrev pub is_among : List ℕ → ℕ → List ℕ → ℕ → Bool
-is_among folder count this_folder this = bytes_eq folder this_folder && nat_lt this count
-
-the_third_of_three : is_among (codes "shop") 3 (codes "shop") 2 ≡ true
-the_third_of_three = refl
 
 -- of all lanes but the first so many of a folder the same is told
 abbrev pub SameFrom : List ℕ → ℕ → Bytes → Bytes → Type 0

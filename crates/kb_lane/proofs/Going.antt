@@ -3,17 +3,15 @@ use Rattle.std.proofs.Common.{◌≡◌, ℕ, ◌≤◌, ◌⊎◌, ◌&&◌, �
 use Rattle.std.proofs.Common.{List, [], ◌∷◌, Option, None, Some, refl, sym, ap, subst, ◌∙◌}
 use Rattle.std.proofs.lemmas.Bool.{and_parts, cases_Bool}
 use Rattle.std.proofs.lemmas.List.{append-nil}
-use Rattle.std.proofs.lemmas.List.Sums.{fold-append}
 use Rattle.kb_codec.specs.declared.command.Command.{Command}
 use Rattle.kb_reply.specs.declared.reply.LaneReply.{LaneReply}
 use Rattle.kb_reply.specs.declared.reply.LaneReply.TheVariants as replies
 use Rattle.kb_reply.specs.declared.step.Step.{Step}
 use Rattle.kb_reply.specs.declared.step.Step.TheVariants as steps
-use Rattle.kb_log.specs.Entries.{Entry, History}
+use Rattle.kb_log.specs.Entries.{Entry}
 use Rattle.kb_log.specs.Logs.{LogValue}
 use Rattle.kb_machine.specs.Judged.{Judged, is_new}
-use Rattle.kb_machine.specs.Machines.{MachineValue, judged, no_machine}
-use Rattle.kb_machine.specs.Histories.{replay, entry_after}
+use Rattle.kb_machine.specs.Machines.{MachineValue, judged}
 use Rattle.kb_lane.specs.Lanes.{LaneValue, StandsThroughout, StandsWithin, StaysItself, machine_of}
 use Rattle.kb_lane.specs.Going.{GoesWell}
 use Rattle.kb_lane.specs.Replies.{Takes, IsMarked, IsReply, Performs, is_accepted, is_taken}
@@ -176,9 +174,3 @@ itself_then honest fault_count old between new first second = record {
   as_honest = second.as_honest ∙ first.as_honest;
   rising = omega (arith, first.rising, second.rising);
 }
-
--- a history that goes on by a command leads to what the command makes of the machine
-pub replay_more : (history : History) (entry : Entry)
-    → replay (history ++ entry ∷ []) ≡ entry_after (replay history) entry
-unfolding replay
-replay_more history entry = fold-append entry_after no_machine history (entry ∷ [])

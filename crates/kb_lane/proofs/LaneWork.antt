@@ -31,7 +31,7 @@ use Rattle.kb_drains.proofs.BilledBooks.{replays_are_billed}
 use Rattle.kb_drains.proofs.NamedSums.{fewer_names_have_no_more}
 use Rattle.kb_drains.proofs.SettlementWork.{settlements_add_no_work}
 use Rattle.kb_drains.proofs.TakenWork.{due_commands_take_work}
-use Rattle.kb_lane.proofs.Going.{replay_more}
+use Rattle.kb_machine.proofs.Replays.{replay_more}
 use Rattle.kb_lane.specs.declared.work.Work.{Work}
 use Rattle.kb_lane.specs.declared.work.Work.TheVariants.{Ask, Check}
 use Rattle.kb_lane.specs.Works.{work_of}

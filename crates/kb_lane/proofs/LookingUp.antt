@@ -36,7 +36,7 @@ use Rattle.kb_lane.specs.LookingUp.{open_in, is_ask, news, seen_status, resettle
 use Rattle.kb_lane.specs.LookingUp.{EachDone}
 use Rattle.kb_lane.proofs.Pairs.{pairs_back, pairs_head}
 use Rattle.kb_lane.proofs.Rest.{next_item}
-use Rattle.kb_lane.proofs.Going.{replay_more}
+use Rattle.kb_machine.proofs.Replays.{replay_more}
 use Rattle.kb_lane.specs.Private.Looking.{IsOpen, left_of, left_in, left_each}
 use Rattle.kb_lane.proofs.Asking.{asks_append, settles_other}
 

@@ -14,10 +14,11 @@ pub replay_none : replay [] ≡ no_machine
 unfolding replay
 replay_none = refl
 
-replay-more : (history : History) (entry : Entry)
+-- a command more leads to what it makes of the machine before
+pub replay_more : (history : History) (entry : Entry)
     → replay (history ++ entry ∷ []) ≡ entry_after (replay history) entry
 unfolding replay
-replay-more history entry = fold-append entry_after no_machine history (entry ∷ [])
+replay_more history entry = fold-append entry_after no_machine history (entry ∷ [])
 
 -- a new command leads to what it makes of what was there
 pub replay_new : (history : History) (today : ℕ) (command : Command) (reply : LaneReply)
@@ -25,7 +26,7 @@ pub replay_new : (history : History) (today : ℕ) (command : Command) (reply : 
     → judged (replay history) today command ≡ New reply after
     → replay (history ++ (today, command) ∷ []) ≡ after
 replay_new history today command reply after new =
-    replay-more history (today, command) ∙ ap (after_judged (replay history)) new
+    replay_more history (today, command) ∙ ap (after_judged (replay history)) new
 
 new-more : (machine : MachineValue) (history : History) (entry : Entry) → AreNewFrom machine history
     → IsNewOn (fold entry_after machine history) entry → AreNewFrom machine (history ++ entry ∷ [])

@@ -16,7 +16,7 @@ use Rattle.kb_lane.specs.declared.work.Work.TheVariants.{Ask, Check}
 use Rattle.kb_lane.specs.Lanes.{LaneValue, machine_of}
 use Rattle.kb_lane.specs.Draining.{due_of, settled_by, with_outbox, Accepts, Looks}
 use Rattle.kb_bills.specs.Drains.{Drains, EndsAfter, Handles, HandlesFront}
-use Rattle.kb_lane.proofs.Going.{replay_more}
+use Rattle.kb_machine.proofs.Replays.{replay_more}
 use Rattle.kb_make.specs.Makes.{IsDoneWith, accepted_if, done_times, first_done}
 use Rattle.kb_make.specs.Private.Sayings.{saying_of}
 use Rattle.kb_make.specs.Private.Sending.{busy_of}

@@ -11,7 +11,7 @@ use Rattle.kb_lane.specs.declared.work.Work.{Work}
 use Rattle.kb_lane.specs.Lanes.{LaneValue, machine_of}
 use Rattle.kb_lane.specs.Replies.{IsReply, Takes, is_accepted, is_taken}
 use Rattle.kb_lane.specs.Works.{work_of}
-use Rattle.kb_lane.proofs.Going.{replay_more}
+use Rattle.kb_machine.proofs.Replays.{replay_more}
 use Rattle.kb_lane.proofs.SaidReplies.{Accepts, judged_accepts}
 use Rattle.kb_make.specs.Makes.{is_refused, sent}
 use Rattle.kb_make.specs.Private.Sending.{busy_of, told_refused}

@@ -6,8 +6,8 @@ use Rattle.std.proofs.lemmas.Bool.{and_from, and_right, and_parts, lt-ltb, le-lt
 use Rattle.std.proofs.lemmas.Bool.{false≢true}
 use Rattle.std.proofs.lemmas.Bool.Decides.{nat_tests}
 use Rattle.std.proofs.lemmas.Slice.Eq.{bytes_eq-Decides}
-use Rattle.kb_vault.specs.Places.{is_place, with_lane, SameLanes}
-use Rattle.kb_opening.specs.Folders.{is_among, with_lanes}
+use Rattle.kb_vault.specs.Places.{is_among, is_place, with_lane, SameLanes}
+use Rattle.kb_opening.specs.Folders.{with_lanes}
 
 same_folder : (folder : List ℕ) → bytes_eq folder folder ≡ true
 same_folder folder = (bytes_eq-Decides folder folder).1 refl

@@ -4,7 +4,8 @@ use Rattle.kb_base.specs.Faults.{Rose}
 use Rattle.kb_lane.specs.Lanes.{LaneValue}
 use Rattle.kb_opening.specs.declared.fault.Unopened.{Unopened}
 use Rattle.kb_opening.specs.declared.fault.Unopened.TheVariants as faults
-use Rattle.kb_opening.specs.Folders.{VaultTold, DiskWords, is_among}
+use Rattle.kb_vault.specs.Places.{is_among}
+use Rattle.kb_opening.specs.Folders.{VaultTold, DiskWords}
 use Rattle.kb_opening.specs.Openings.{AreBack, IsAsBefore, IsCause, TellsNoOther}
 use Rattle.kb_opening.specs.Private.AllLanes.{HasStopped}
 use Rattle.kb_opening.proofs.Amongs.{among, of_folder, not_among_fewer, told_before, told_now}

@@ -1,8 +1,8 @@
 -- Lanes that were opened, and that are given back later: which are out, and what is told of them.
 use Rattle.std.proofs.Common.{◌≡◌, ◌<◌, ℕ, true, false, Bool, List, length, None, refl, sym, subst, ◌∙◌}
-use Rattle.kb_vault.specs.Places.{SameLanes}
+use Rattle.kb_vault.specs.Places.{is_among, SameLanes}
 use Rattle.kb_lane.specs.Lanes.{LaneValue}
-use Rattle.kb_opening.specs.Folders.{VaultTold, DiskWords, is_among}
+use Rattle.kb_opening.specs.Folders.{VaultTold, DiskWords}
 use Rattle.kb_opening.specs.Openings.{AreOpened, AreBack}
 use Rattle.kb_opening.proofs.Amongs.{among, of_folder, told_before, told_now}
 

@@ -3,7 +3,7 @@ use Rattle.std.proofs.Common.{◌≡◌, ◌≢◌, ◌⊎◌, ◌<◌, ◌≤�
 use Rattle.std.proofs.Common.{Option, Some, None, IfSome, inl, inr, arith, refl, ap, sym, subst, ◌∙◌}
 use Rattle.std.specs.List.{slice_get}
 use Rattle.kb_base.specs.Faults.{Rose}
-use Rattle.kb_vault.specs.Places.{is_place, SameLanes}
+use Rattle.kb_vault.specs.Places.{is_among, is_place, SameLanes}
 use Rattle.kb_journal.specs.Format.{StandsFor}
 use Rattle.kb_journal.specs.Reading.{number_at}
 use Rattle.kb_log.specs.Entries.{History, payloads}
@@ -13,7 +13,7 @@ use Rattle.kb_lane.specs.Lanes.{LaneValue}
 use Rattle.kb_lane.specs.Loads.{IsNoLane}
 use Rattle.kb_opening.specs.declared.fault.Unopened.{Unopened}
 use Rattle.kb_opening.specs.declared.fault.Unopened.TheVariants as faults
-use Rattle.kb_opening.specs.Folders.{VaultTold, DiskWords, is_among, with_lanes}
+use Rattle.kb_opening.specs.Folders.{VaultTold, DiskWords, with_lanes}
 use Rattle.kb_opening.specs.Openings.{IsOpened, AreOpened, TellsNoOther, TellsOtherLanes, IsCause}
 use Rattle.kb_opening.specs.Openings.{IsLaneBeside, IsFirstOfThem}
 use Rattle.kb_opening.specs.Private.AllLanes.{AddsLane, HasStopped}

@@ -1,7 +1,8 @@
 -- Lanes that were opened, and given back with nothing done on them, leave the folder as it was.
 use Rattle.std.proofs.Common.{◌≡◌, ◌≤◌, ℕ, true, false, Bool, List, length, arith, refl, subst, ◌∙◌}
 use Rattle.kb_lane.specs.Lanes.{LaneValue}
-use Rattle.kb_opening.specs.Folders.{VaultTold, DiskWords, is_among}
+use Rattle.kb_vault.specs.Places.{is_among}
+use Rattle.kb_opening.specs.Folders.{VaultTold, DiskWords}
 use Rattle.kb_opening.specs.Openings.{AreOpened, AreBack, IsAsBefore, TellsNoOther}
 use Rattle.kb_opening.proofs.Amongs.{of_folder, not_among_fewer}
 use Rattle.kb_opening.proofs.Closing.{as_out_as_before, others_as_before}

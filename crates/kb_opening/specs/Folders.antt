@@ -1,6 +1,6 @@
 -- What is told of a vault's folders and of the disks of their lanes.
-use Rattle.std.specs.Prelude.{ℕ, ◌≡◌, ◌&&◌, Bool, true, false, if◌then◌else◌, List, codes, bytes_eq, nat_lt}
-use Rattle.std.specs.Prelude.{Option, refl}
+use Rattle.std.specs.Prelude.{ℕ, ◌≡◌, Bool, true, false, if◌then◌else◌, List, codes, Option, refl}
+use Rattle.kb_vault.specs.Places.{is_among}
 
 -- What is told of a vault: which lanes are out, the bytes of lanes and of texts, and how many calls have
 -- failed.
@@ -30,16 +30,6 @@ pub record DiskWords (D : Type 0) : Type 1 where
 abbrev pub words_of : {D : Type 0} → (D → Bool) → (D → List ℕ) → (D → List ℕ → Type 0) → (D → ℕ) → DiskWords D
 words_of honest seen images fault_count =
     record { honest = honest; seen = seen; images = images; fault_count = fault_count }
-
--- whether a lane of a folder is one of the first of this folder, of which there are so many
-abbrev pub is_among : List ℕ → ℕ → List ℕ → ℕ → Bool
-is_among this_folder count folder lane = bytes_eq this_folder folder && nat_lt lane count
-
-lane_2_of_three : is_among (codes "shop") 3 (codes "shop") 2 ≡ true
-lane_2_of_three = refl
-
-no_lane_3_of_three : is_among (codes "shop") 3 (codes "shop") 3 ≡ false
-no_lane_3_of_three = refl
 
 -- what is told of each lane, but for the first of this folder, of each of which this is told
 abbrev pub with_lanes : {A : Type 0} → (List ℕ → ℕ → A) → List ℕ → ℕ → A → List ℕ → ℕ → A

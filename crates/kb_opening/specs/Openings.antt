@@ -2,7 +2,7 @@
 use Rattle.std.specs.Prelude.{ℕ, ◌≡◌, ◌≢◌, ◌≤◌, ◌<◌, ◌⊎◌, true, false, IsTrue, ⊤, List, [], length, slice_get}
 use Rattle.std.specs.Prelude.{Option, Some, None, IfSome}
 use Rattle.kb_base.specs.Faults.{Rose}
-use Rattle.kb_vault.specs.Places.{SameLanes, SameFiles}
+use Rattle.kb_vault.specs.Places.{is_among, SameLanes, SameFiles}
 use Rattle.kb_vault.specs.Vaults.{Opens}
 use Rattle.kb_journal.specs.Format.{StandsFor}
 use Rattle.kb_journal.specs.Reading.{number_at}
@@ -16,7 +16,7 @@ use Rattle.kb_lane.specs.Lanes.{LaneValue, opened_of}
 use Rattle.kb_lane.specs.Loads.{IsNoLane}
 use Rattle.kb_opening.specs.declared.fault.Unopened.{Unopened}
 use Rattle.kb_opening.specs.declared.fault.Unopened.TheVariants.{Disk, NoMemory, Journal, Market}
-use Rattle.kb_opening.specs.Folders.{VaultTold, DiskWords, is_among, with_lanes}
+use Rattle.kb_opening.specs.Folders.{VaultTold, DiskWords, with_lanes}
 
 -- A lane was opened as the one of this number among so many: it has done and asked nothing yet, and no call
 -- of its disk has failed. If its bytes were told, its disk is open over them, and its history is what they

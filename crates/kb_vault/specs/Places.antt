@@ -1,6 +1,6 @@
 -- Lanes of folders, each by the name of its folder and its number, and what is told of each.
-use Rattle.std.specs.Prelude.{ℕ, ◌==◌, Bool, true, false, ◌&&◌, if◌then◌else◌, List, codes, bytes_eq, Option}
-use Rattle.std.specs.Prelude.{◌≡◌, refl}
+use Rattle.std.specs.Prelude.{ℕ, ◌==◌, Bool, true, false, ◌&&◌, if◌then◌else◌, List, codes, bytes_eq, nat_lt}
+use Rattle.std.specs.Prelude.{◌≡◌, Option, refl}
 
 -- whether a lane of a folder is this one of this folder
 abbrev pub is_place : List ℕ → ℕ → List ℕ → ℕ → Bool
@@ -19,6 +19,16 @@ lane_3_is_out = refl
 
 lane_4_is_not : with_lane (λ folder lane. false) (codes "shop") 3 true (codes "shop") 4 ≡ false
 lane_4_is_not = refl
+
+-- whether a lane of a folder is one of the first of this folder, of which there are so many
+abbrev pub is_among : List ℕ → ℕ → List ℕ → ℕ → Bool
+is_among this_folder count folder lane = bytes_eq this_folder folder && nat_lt lane count
+
+lane_2_of_three : is_among (codes "shop") 3 (codes "shop") 2 ≡ true
+lane_2_of_three = refl
+
+no_lane_3_of_three : is_among (codes "shop") 3 (codes "shop") 3 ≡ false
+no_lane_3_of_three = refl
 
 -- the same is told of each lane
 abbrev pub SameLanes : {A : Type 0} → (List ℕ → ℕ → A) → (List ℕ → ℕ → A) → Type 0

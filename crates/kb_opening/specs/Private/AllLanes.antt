@@ -1,9 +1,9 @@
 -- The lanes of a folder, opened one after another.
 use Rattle.std.specs.Prelude.{ℕ, ◌≡◌, ◌≤◌, ◌<◌, true, false, List, [], ◌∷◌, ◌++◌, length, slice_get, Some}
 use Rattle.std.specs.Prelude.{IfSome}
-use Rattle.kb_vault.specs.Places.{SameLanes, SameFiles}
+use Rattle.kb_vault.specs.Places.{is_among, SameLanes, SameFiles}
 use Rattle.kb_lane.specs.Lanes.{LaneValue}
-use Rattle.kb_opening.specs.Folders.{VaultTold, DiskWords, is_among, with_lanes}
+use Rattle.kb_opening.specs.Folders.{VaultTold, DiskWords, with_lanes}
 use Rattle.kb_opening.specs.Openings.{TellsNoOther}
 use Rattle.kb_opening.specs.Private.OneLane.{TakesOut}
 
