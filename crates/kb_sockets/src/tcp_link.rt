@@ -33,13 +33,14 @@ impl Model for TcpLink {
 
 impl TcpLink {
     /// A link over this stream, of which no call has failed. A read or a write that waits longer than its
-    /// patience fails.
+    /// patience fails. What is written is sent at once, however short it is.
     pub fn new(stream: TcpStream) -> io::Result<TcpLink>
         ensures { IfOk result (λ link. link ≡ record { reads = 0; writes = 0 }) }
     {
         let patience = Some(Duration::from_secs(PATIENCE));
         stream.set_read_timeout(patience)?;
         stream.set_write_timeout(patience)?;
+        stream.set_nodelay(true)?;
         Ok(TcpLink {
             stream,
             reads: FaultCount::new(),
