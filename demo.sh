@@ -1,6 +1,7 @@
 #!/bin/sh
-# A shop's month: makes a folder of lanes and answers demo/month.jsonl at once by the program as it is written,
-# then proves and builds the program, and answers again by what was proved, twice, to show that keys act once.
+# A shop's month: makes a folder of lanes and answers demo/month.jsonl at once by the program as it is
+# written, then proves and builds the program, and answers again by what was proved, twice, to show that
+# keys act once.
 #
 #   sh demo.sh            both
 #   sh demo.sh --quick    the first answers alone, in some minutes

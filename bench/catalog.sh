@@ -3,9 +3,9 @@
 # `Valid::find_plan` and the five rule calls. It tests nothing. The aims are 20 ms for the check, and
 # 20 us for each of the other calls, which take no memory.
 #
-# The catalog is slightly larger than what 60,000 bytes can spell: 600 plans of one phase, one for each of 60 products
-# and ten billing periods. The list DEFAULT names none, some or all of them. Each rule list has ten
-# cases, of which the last one decides. The time is taken inside the program, as LLVM builds it, and is
+# The catalog is slightly larger than what 60,000 bytes can spell: 600 plans of one phase, one for each of
+# 60 products and ten billing periods. The list DEFAULT names none, some or all of them. Each rule list has
+# ten cases, of which the last one decides. The time is taken inside the program, as LLVM builds it, and is
 # the best of five: of one check, and of 10,000 of each other call.
 #
 # The program and the libraries below it are built in a new folder, which takes 2 GB while it is there.

@@ -3,9 +3,9 @@
 # (`toml::table_from_slice`), and how much memory the program that reads it holds. It tests nothing. The aims
 # are 30 ms for the read, and 10 MB.
 #
-# The text has 59,641 of at most 60,000 bytes, and spells 56 products, each with a plan of one phase for each of
-# the ten billing periods. The list DEFAULT names all 560 plans, and each rule list has one case. The time is
-# taken inside the program, as LLVM builds it, and is the best of five.
+# The text has 59,641 of at most 60,000 bytes, and spells 56 products, each with a plan of one phase for
+# each of the ten billing periods. The list DEFAULT names all 560 plans, and each rule list has one case.
+# The time is taken inside the program, as LLVM builds it, and is the best of five.
 #
 # The program and the libraries below it are built in a new folder, which takes 3 GB while it is there.
 set -eu

@@ -1,10 +1,11 @@
 #!/bin/sh
 # Prints how long it takes to write a command as bytes and to read it back: of an account that is opened, of a
-# subscription that is begun, of a block with six names, and of a catalog text. It tests nothing. The aims stand beside
-# the figures; a text is to be read at the speed of its reader, whose own time is printed beside it.
+# subscription that is begun, of a block with six names, and of a catalog text. It tests nothing. The aims
+# stand beside the figures; a text is to be read at the speed of its reader, whose own time is printed
+# beside it.
 #
-# A call is timed together with the drop of what it gives. The time is taken inside the program, as LLVM builds it, and
-# is the best of five runs of many calls.
+# A call is timed together with the drop of what it gives. The time is taken inside the program, as LLVM
+# builds it, and is the best of five runs of many calls.
 #
 # The program and the libraries below it are built in a new folder, which takes 4 GB while it is there.
 set -eu
@@ -16,8 +17,8 @@ libraries='kb_base kb_days kb_money kb_sharing kb_catalog kb_overdue kb_blocking
 
 write_program() {
     cat <<'END'
-//! Times commands as bytes. A line that is printed has what is timed, how many calls were made, and the nanoseconds
-//! that they took.
+//! Times commands as bytes. A line that is printed has what is timed, how many calls were made, and the
+//! nanoseconds that they took.
 #![tactic(auto)]
 
 use kb_base::NoMemory;

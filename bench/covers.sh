@@ -1,10 +1,10 @@
 #!/bin/sh
-# Prints how long it takes to bring a cover up to what is due: where nothing changes, at 120 and at 240 monthly
-# stretches, and where 500 stretches are repaired, or are repaired and billed by another plan. It tests nothing. The
-# aims stand beside the figures.
+# Prints how long it takes to bring a cover up to what is due: where nothing changes, at 120 and at 240
+# monthly stretches, and where 500 stretches are repaired, or are repaired and billed by another plan. It
+# tests nothing. The aims stand beside the figures.
 #
-# A call is timed together with the drop of the cover and the items that it gives. The time is taken inside the
-# program, as LLVM builds it, and is the best of five runs of many calls.
+# A call is timed together with the drop of the cover and the items that it gives. The time is taken inside
+# the program, as LLVM builds it, and is the best of five runs of many calls.
 #
 # The program and the libraries below it are built in a new folder, which takes 3 GB while it is there.
 set -eu
@@ -16,8 +16,8 @@ libraries='kb_base kb_days kb_money kb_sharing kb_catalog kb_align kb_timeline k
 
 write_program() {
     cat <<'END'
-//! Times covers. A line that is printed has what is timed, how many calls were made, the nanoseconds that they took,
-//! and how many new items they gave.
+//! Times covers. A line that is printed has what is timed, how many calls were made, the nanoseconds that
+//! they took, and how many new items they gave.
 #![tactic(auto)]
 ghost use Rattle.std.specs.Prelude.{◌≡◌, ◌≤◌, ◌<◌, ◌^◌, map};
 ghost use Rattle.kb_due.specs.CellStretches.{stretch_of};

@@ -1,7 +1,8 @@
 #!/bin/sh
-# Prints how long it takes to issue an invoice, to pay on one and to level the account, one after another, at an
-# account of 100 and at one of 100,000 paid invoices with three unpaid ones, and how much memory an invoice
-# takes. It tests nothing. The time is to grow no more than the logarithm of the number of invoices does.
+# Prints how long it takes to issue an invoice, to pay on one and to level the account, one after another,
+# at an account of 100 and at one of 100,000 paid invoices with three unpaid ones, and how much memory an
+# invoice takes. It tests nothing. The time is to grow no more than the logarithm of the number of invoices
+# does.
 #
 # Each invoice has one line of 1000. The payment is of 2500 on the oldest, which is paid already, so levelling
 # makes credit there and uses it on the unpaid ones. The three edits are made of the account as it stands, and
@@ -26,8 +27,8 @@ peak_memory() {
 
 write_program() {
     cat <<'END'
-//! Times invoices. A line that is printed has how many invoices are paid, how often the three edits were made,
-//! and the nanoseconds that they took.
+//! Times invoices. A line that is printed has how many invoices are paid, how often the three edits were
+//! made, and the nanoseconds that they took.
 #![tactic(auto)]
 
 ghost use Rattle.std.specs.Prelude.{◌≡◌, ◌+◌, ◌*◌, ◌^◌, ◌≤◌, nat_abs, IfOk};

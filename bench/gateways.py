@@ -9,15 +9,13 @@ seconds.
 """
 import json
 import multiprocessing
-import pathlib
 import socket
-import subprocess
 import sys
 import tempfile
 import time
 
-ROOT = pathlib.Path(__file__).resolve().parent.parent
-BILLD = ROOT / "crates/billd/out/billd"
+from program import line, made, measured
+
 DAY = "2024-03-01"
 
 # what a gateway does once it has read an order, and whether the payment is then open
@@ -36,23 +34,19 @@ def serve(door: socket.socket, asked, misdeed) -> None:
     while True:
         peer, _address = door.accept()
         with peer, peer.makefile("rb") as lines:
-            for line in lines:
-                asked.append(line.decode())
-                if line.startswith(b"LOOK "):
+            for order in lines:
+                asked.append(order.decode())
+                if order.startswith(b"LOOK "):
                     peer.sendall(b"PROCESSED\n")
                     continue
                 misdeed(peer)
                 break
 
 
-def run(folder: str, port: int, lines: list[dict]) -> list[dict]:
+def run(folder: str, port: int, lines: list[bytes]) -> list[dict]:
     """The answers to these lines."""
-    text = b"".join(json.dumps(line).encode() + b"\n" for line in lines)
-    words = [BILLD, "apply", "--dir", folder, "--gateway", f"127.0.0.1:{port}"]
-    ended = subprocess.run(words, input=text, capture_output=True, check=False)
-    if ended.returncode != 0:
-        sys.exit(f"status {ended.returncode}: {ended.stdout!r}")
-    return [json.loads(line) for line in ended.stdout.splitlines()]
+    words = ["apply", "--dir", folder, "--gateway", f"127.0.0.1:{port}"]
+    return [json.loads(answer) for answer in measured(words, b"".join(lines)).printed.splitlines()]
 
 
 def unpaid(answers: list[dict]) -> int:
@@ -61,18 +55,17 @@ def unpaid(answers: list[dict]) -> int:
 
 def hold(name: str, misdeed, stays_open: bool) -> None:
     """Two runs of one payment over this gateway."""
-    account = {"do": "account", "account": "a1"}
+    account = line(do="account", account="a1")
     first = [
-        {"do": "open", "account": "a1", "key": "k1", "currency": "USD", "bcd": 1, "today": DAY},
-        {"do": "charge", "account": "a1", "key": "k2", "amount": 700, "today": DAY},
-        {"do": "pay", "account": "a1", "key": "k3", "payment": "p1", "invoice": 1, "today": DAY},
-        {"do": "charge", "account": "a1", "key": "k4", "amount": 5, "today": DAY},
+        line(do="open", account="a1", key="k1", currency="USD", bcd=1, today=DAY),
+        line(do="charge", account="a1", key="k2", amount=700, today=DAY),
+        line(do="pay", account="a1", key="k3", payment="p1", invoice=1, today=DAY),
+        line(do="charge", account="a1", key="k4", amount=5, today=DAY),
         account,
     ]
-    again = [*first[:4], {"do": "janitor", "today": DAY}, account]
+    again = [*first[:4], line(do="janitor", today=DAY), account]
     with tempfile.TemporaryDirectory() as folder, multiprocessing.Manager() as manager:
-        texts = ["--catalog", ROOT / "demo/catalog.toml", "--overdue", ROOT / "demo/overdue.toml"]
-        subprocess.run([BILLD, "init", "--dir", folder, "--lanes", "1", *texts], check=True)
+        made(folder)
         asked = manager.list()
         with socket.create_server(("127.0.0.1", 0)) as door:
             gateway = multiprocessing.Process(target=serve, args=(door, asked, misdeed), daemon=True)
@@ -81,8 +74,8 @@ def hold(name: str, misdeed, stays_open: bool) -> None:
             left = unpaid(run(folder, port, first))
             settled = unpaid(run(folder, port, again))
             gateway.kill()
-        orders = sum(line.startswith("ASK ") for line in asked)
-        looks = sum(line.startswith("LOOK ") for line in asked)
+        orders = sum(order.startswith("ASK ") for order in asked)
+        looks = sum(order.startswith("LOOK ") for order in asked)
     found = (left, settled, orders, looks)
     wanted = (705, 5, 1, 1) if stays_open else (5, 5, 1, 0)
     if found != wanted:

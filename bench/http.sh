@@ -1,10 +1,10 @@
 #!/bin/sh
-# Prints how long it takes to give a request of a connection: a GET of 100 bytes and a POST with a body of 200, each in
-# a reading of its own, with its route; to make a response with a body of 200 bytes; and to read a head of 16,384 bytes
-# that comes byte by byte. It tests nothing. The aims stand beside the figures.
+# Prints how long it takes to give a request of a connection: a GET of 100 bytes and a POST with a body of
+# 200, each in a reading of its own, with its route; to make a response with a body of 200 bytes; and to
+# read a head of 16,384 bytes that comes byte by byte. It tests nothing. The aims stand beside the figures.
 #
-# A request is timed together with the reading from a link in memory and the drop of the request. The time is taken
-# inside the program, as LLVM builds it, and is the best of five runs of many calls.
+# A request is timed together with the reading from a link in memory and the drop of the request. The time
+# is taken inside the program, as LLVM builds it, and is the best of five runs of many calls.
 #
 # The program and the libraries below it are built in a new folder, which takes 2 GB while it is there.
 set -eu

@@ -1,12 +1,12 @@
 #!/bin/sh
-# Prints how long it takes to read a line of JSON as a request, and to write an answer as JSON; and how much memory a long
-# line takes while it is read. It tests nothing. The aims stand beside the figures.
+# Prints how long it takes to read a line of JSON as a request, and to write an answer as JSON; and how much
+# memory a long line takes while it is read. It tests nothing. The aims stand beside the figures.
 #
-# The lines are those of a bill, of a subscription that is begun and of a block with all its members; a bill that is
-# padded with blanks to 65,536 bytes; a line as long whose member that isn't known is one text, and one whose is an array
-# of numbers. The answers are to an accepted command and to a query for an account. A call is timed together with the
-# drop of what it gives. The time is taken inside the program, as LLVM builds it, and is the best of five runs of many
-# calls.
+# The lines are those of a bill, of a subscription that is begun and of a block with all its members; a bill
+# that is padded with blanks to 65,536 bytes; a line as long whose member that isn't known is one text, and
+# one whose is an array of numbers. The answers are to an accepted command and to a query for an account. A
+# call is timed together with the drop of what it gives. The time is taken inside the program, as LLVM
+# builds it, and is the best of five runs of many calls.
 #
 # The program and the libraries below it are built in a new folder, which takes 7 GB while it is there.
 set -eu
@@ -21,8 +21,8 @@ libraries=$(echo $libraries)
 
 write_program() {
     cat <<'END'
-//! Times requests and answers in JSON. A line that is printed has what is timed, how many calls were made, and the
-//! nanoseconds that they took; or how much memory the process held at most, in KB.
+//! Times requests and answers in JSON. A line that is printed has what is timed, how many calls were made,
+//! and the nanoseconds that they took; or how much memory the process held at most, in KB.
 #![tactic(auto)]
 
 use kb_account::{AccountView, View};

@@ -7,23 +7,21 @@ another, and is killed by SIGKILL after a random time. The run after it is first
 before again, under its key: one that was answered must get the answer that it got, and the one that wasn't is
 answered now. Prints how many runs and answers there were, and fails at the first answer that is lost.
 """
-import json
-import pathlib
 import random
 import subprocess
 import sys
 import tempfile
 import threading
 
-ROOT = pathlib.Path(__file__).resolve().parent.parent
-BILLD = ROOT / "crates/billd/out/billd"
+from program import BILLD, ROOT, line, made, measured
+
 LONGEST = 0.06
+DAY = "2024-03-01"
 
 
-def line(key: int) -> bytes:
+def charge(key: int) -> bytes:
     """A charge under this key."""
-    command = {"do": "charge", "account": "a1", "key": f"c{key}", "amount": 1, "today": "2024-03-01"}
-    return json.dumps(command).encode() + b"\n"
+    return line(do="charge", account="a1", key=f"c{key}", amount=1, today=DAY)
 
 
 def start(folder: str) -> subprocess.Popen:
@@ -45,7 +43,7 @@ def one_run(folder: str, before: dict[int, bytes | None], first: int) -> dict[in
     """Sends what came before again, then new commands until the program is killed: their keys and answers."""
     program = start(folder)
     for key, answer in before.items():
-        again = ask(program, line(key))
+        again = ask(program, charge(key))
         if again is None or (answer is not None and again != answer):
             sys.exit(f"lost: c{key} was answered {answer!r}, and now {again!r}")
     killer = threading.Timer(random.uniform(0, LONGEST), program.kill)
@@ -53,7 +51,7 @@ def one_run(folder: str, before: dict[int, bytes | None], first: int) -> dict[in
     answers: dict[int, bytes | None] = {}
     key = first
     while True:
-        answers[key] = ask(program, line(key))
+        answers[key] = ask(program, charge(key))
         if answers[key] is None:
             break
         key += 1
@@ -64,13 +62,9 @@ def one_run(folder: str, before: dict[int, bytes | None], first: int) -> dict[in
 
 def main(count: int) -> None:
     with tempfile.TemporaryDirectory(dir=ROOT) as folder:
-        init = ["init", "--dir", folder, "--lanes", "1"]
-        texts = ["--catalog", ROOT / "demo/catalog.toml", "--overdue", ROOT / "demo/overdue.toml"]
-        subprocess.run([BILLD, *init, *texts], check=True)
-        opening = {"do": "open", "account": "a1", "key": "k1", "currency": "USD", "bcd": 1,
-                   "today": "2024-03-01"}
-        subprocess.run([BILLD, "apply", "--dir", folder], input=json.dumps(opening).encode(), check=True,
-                       stdout=subprocess.DEVNULL)
+        made(folder)
+        measured(["apply", "--dir", folder],
+                 line(do="open", account="a1", key="k1", currency="USD", bcd=1, today=DAY))
         before: dict[int, bytes | None] = {}
         first = answered = 0
         for _ in range(count):

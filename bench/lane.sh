@@ -1,11 +1,12 @@
 #!/bin/sh
-# Prints how long commands on a lane take, and how much memory an account of a lane does. It tests nothing. The
-# aims stand beside the figures.
+# Prints how long commands on a lane take, and how much memory an account of a lane does. It tests nothing.
+# The aims stand beside the figures.
 #
 # A lane on a disk in memory, which notes each of its calls, opens 10,000 accounts and charges each ten times;
-# behind each command its outbox is handled to its end. The lane is then loaded from its disk. A charge is timed
-# on one account of a thousand, and on one of 100,000. The memory is that of the 100,000 accounts and of their
-# disk, with its notes. The time is taken inside the program, as LLVM builds it, and is the best of three runs.
+# behind each command its outbox is handled to its end. The lane is then loaded from its disk. A charge is
+# timed on one account of a thousand, and on one of 100,000. The memory is that of the 100,000 accounts and
+# of their disk, with its notes. The time is taken inside the program, as LLVM builds it, and is the best of
+# three runs.
 #
 # The program and the libraries below it are built in a new folder, which takes 8 GB while it is there.
 set -eu

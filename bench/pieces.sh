@@ -1,17 +1,17 @@
 #!/bin/sh
-# Prints how long `pieces` takes: the due cells of all days of one subscription, as runs of days. It tests nothing. The
-# aims stand beside the figures.
+# Prints how long `pieces` takes: the due cells of all days of one subscription, as runs of days. It tests
+# nothing. The aims stand beside the figures.
 #
-# The subscription is the only one of its account, whose cycle day is the 1st, and starts on 2000-01-01. On a MONTHLY
-# plan the billed date lies 1, 10 and 75 years after the start, and on a DAILY plan 10 years; there is no change and no
-# pause then, so that the time goes into billing periods. The entries are the start and changes between two MONTHLY
-# plans, each 32 days after the one before; the pauses are of 16 days, each begun 64 days after the one before. A pause
-# is two blocking states of the bundle, of which the first has all three flags on and the second has them off. The
-# billed date lies 32 days after the last entry. So twice the events lie as dense in twice the days, and are to take at
-# most 2.2 times as long.
+# The subscription is the only one of its account, whose cycle day is the 1st, and starts on 2000-01-01. On
+# a MONTHLY plan the billed date lies 1, 10 and 75 years after the start, and on a DAILY plan 10 years;
+# there is no change and no pause then, so that the time goes into billing periods. The entries are the
+# start and changes between two MONTHLY plans, each 32 days after the one before; the pauses are of 16 days,
+# each begun 64 days after the one before. A pause is two blocking states of the bundle, of which the first
+# has all three flags on and the second has them off. The billed date lies 32 days after the last entry. So
+# twice the events lie as dense in twice the days, and are to take at most 2.2 times as long.
 #
-# A call is timed together with the drop of the pieces that it gives. The time is taken inside the program, as LLVM
-# builds it, and is the best of five runs of many calls, each of which takes about 0.1 s or more.
+# A call is timed together with the drop of the pieces that it gives. The time is taken inside the program,
+# as LLVM builds it, and is the best of five runs of many calls, each of which takes about 0.1 s or more.
 #
 # The program and the libraries below it are built in a new folder, which takes 3 GB while it is there.
 set -eu
@@ -23,8 +23,8 @@ libraries='kb_base kb_days kb_money kb_catalog kb_align kb_timeline kb_blocking 
 
 write_program() {
     cat <<'END'
-//! Times the pieces of a subscription. A line that is printed has what is timed, how many calls were made, the
-//! nanoseconds that they took, and how many pieces they gave.
+//! Times the pieces of a subscription. A line that is printed has what is timed, how many calls were made,
+//! the nanoseconds that they took, and how many pieces they gave.
 #![tactic(auto)]
 
 use kb_base::Seq;

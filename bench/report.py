@@ -6,22 +6,13 @@ Makes a folder of two lanes in memory (/dev/shm) with the built program, and bil
 months on it. Then it prints how long each report takes (aim for `balances`: 0.35 s), the loading of the lanes
 included, and peak memory.
 """
-import json
-import os
-import pathlib
-import subprocess
 import tempfile
-import time
 
-ROOT = pathlib.Path(__file__).resolve().parent.parent
-BILLD = ROOT / "crates/billd/out/billd"
+from program import Run, line, made, measured
+
 ACCOUNTS = 1_000
 MONTHS = 12
 RUNS = 5
-
-
-def line(**members) -> bytes:
-    return json.dumps(members).encode() + b"\n"
 
 
 def lines() -> bytes:
@@ -40,26 +31,19 @@ def lines() -> bytes:
     return b"".join(told)
 
 
-def report(folder: str, kind: str) -> tuple[float, int, int]:
-    """Seconds, peak memory in kilobytes, and the number of lines."""
-    began = time.monotonic()
-    words = [BILLD, "report", "--dir", folder, "--kind", kind, "--day", "2024-12-31"]
-    program = subprocess.Popen(words, stdout=subprocess.PIPE)
-    printed = program.stdout.read().count(b"\n")
-    _pid, status, usage = os.wait4(program.pid, 0)
-    if status != 0:
-        raise SystemExit(f"billd ended with {status}")
-    return time.monotonic() - began, usage.ru_maxrss, printed
+def report(folder: str, kind: str) -> Run:
+    return measured(["report", "--dir", folder, "--kind", kind, "--day", "2024-12-31"])
 
 
 def main() -> None:
     with tempfile.TemporaryDirectory(dir="/dev/shm") as folder:
-        texts = ["--catalog", ROOT / "demo/catalog.toml", "--overdue", ROOT / "demo/overdue.toml"]
-        subprocess.run([BILLD, "init", "--dir", folder, "--lanes", "2", *texts], check=True)
-        subprocess.run([BILLD, "apply", "--dir", folder], input=lines(), stdout=subprocess.DEVNULL, check=True)
+        made(folder, lanes=2)
+        measured(["apply", "--dir", folder], lines())
         for kind in ("balances", "arrears", "states"):
-            seconds, memory, printed = min(report(folder, kind) for _ in range(RUNS))
-            print(f"{kind}: {printed} lines in {seconds:.2f} s, {memory} kB at most (the best of {RUNS} runs)")
+            run = min(report(folder, kind) for _ in range(RUNS))
+            printed = run.printed.count(b"\n")
+            print(f"{kind}: {printed} lines in {run.seconds:.2f} s, {run.kilobytes} kB at most "
+                  f"(the best of {RUNS} runs)")
 
 
 if __name__ == "__main__":

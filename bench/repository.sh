@@ -1,9 +1,11 @@
-# Makes a repository of copies, proves, builds and runs a program in it, and takes the best of the times that the
-# program prints. The other scripts source it from the top of the repository; it isn't run by itself.
+# Makes a repository of copies, proves, builds and runs a program in it, and takes the best of the times
+# that the program prints. The other scripts source it from the top of the repository; it isn't run by
+# itself.
 #
-# They set `program`, which is the program's name, and `libraries`, which are those that it stands on, lowest first,
-# and they print the program by `write_program`. The repository is the folder `work`, which goes when they end. A line
-# that the program prints names what is timed, how many calls were made, and the nanoseconds that they took.
+# They set `program`, which is the program's name, and `libraries`, which are those that it stands on,
+# lowest first, and they print the program by `write_program`. The repository is the folder `work`, which
+# goes when they end. A line that the program prints names what is timed, how many calls were made, and the
+# nanoseconds that they took.
 export LC_ALL=C
 
 work=$(mktemp -d)

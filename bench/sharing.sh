@@ -1,11 +1,11 @@
 #!/bin/sh
-# Prints how long shared lists and maps take, at three sizes: a push and its drop, a `get` and a `replace` of a
-# list; a `with` of a new key and its drop, and a `get` of a map by numbers and of one by names. It tests nothing.
-# The aims stand beside the figures.
+# Prints how long shared lists and maps take, at three sizes: a push and its drop, a `get` and a `replace`
+# of a list; a `with` of a new key and its drop, and a `get` of a map by numbers and of one by names. It
+# tests nothing. The aims stand beside the figures.
 #
-# Members and keys are asked for and changed all over the list or the map, in an order that jumps. The time is taken
-# inside the program, as LLVM builds it, and is the best of five runs of many calls. Pushes begin at the size and go
-# on from there.
+# Members and keys are asked for and changed all over the list or the map, in an order that jumps. The time
+# is taken inside the program, as LLVM builds it, and is the best of five runs of many calls. Pushes begin
+# at the size and go on from there.
 #
 # The program and the libraries below it are built in a new folder, which takes 2 GB while it is there.
 set -eu

@@ -1,15 +1,16 @@
 #!/bin/sh
 # Prints how long billing periods, phases, blocking states and timelines take: `period_of`, `phase_at`,
-# `Blocks::blocked`, `Blocks::transitions`, the four edits of a `Timeline` and its `governing`. It tests nothing. The
-# aims stand beside the figures. All but the edits and `transitions` take no memory.
+# `Blocks::blocked`, `Blocks::transitions`, the four edits of a `Timeline` and its `governing`. It tests
+# nothing. The aims stand beside the figures. All but the edits and `transitions` take no memory.
 #
-# Periods are walked from 2000 to 2102, each call from the end of the period before. The blocking states are those of
-# one chain, of twelve scopes and services in turn, which are on and off in turn, and off in the end; they are accepted
-# in the order of their days or in a mixed one. `blocked` asks for a day after them, so that it looks at each state,
-# and is to take four times as long for four times the states. The timeline has 128 subscriptions, each in a bundle of
-# its own and with ten entries, and the edits are of the last one; each is timed together with the drop of the timeline
-# that it gives. `governing` asks for days all over 1,024 entries. The time is taken inside the program, as LLVM builds
-# it, and is the best of five runs of many calls.
+# Periods are walked from 2000 to 2102, each call from the end of the period before. The blocking states are
+# those of one chain, of twelve scopes and services in turn, which are on and off in turn, and off in the
+# end; they are accepted in the order of their days or in a mixed one. `blocked` asks for a day after them,
+# so that it looks at each state, and is to take four times as long for four times the states. The timeline
+# has 128 subscriptions, each in a bundle of its own and with ten entries, and the edits are of the last
+# one; each is timed together with the drop of the timeline that it gives. `governing` asks for days all
+# over 1,024 entries. The time is taken inside the program, as LLVM builds it, and is the best of five runs
+# of many calls.
 #
 # The program and the libraries below it are built in a new folder, which takes 2 GB while it is there.
 set -eu
@@ -21,8 +22,8 @@ libraries='kb_base kb_days kb_align kb_timeline kb_blocking'
 
 write_program() {
     cat <<'END'
-//! Times billing periods, phases, blocking states and timelines. A line that is printed has what is timed, how
-//! many calls were made, and the nanoseconds that they took.
+//! Times billing periods, phases, blocking states and timelines. A line that is printed has what is timed,
+//! how many calls were made, and the nanoseconds that they took.
 #![tactic(auto)]
 
 use kb_align::{period_of, phase_at};
@@ -44,8 +45,8 @@ const LAST: u32 = 48_242;
 /// A day after each blocking state.
 const LATER: u32 = 44_000;
 
-/// How many states, in the order of their days, one lies behind the one that was accepted before it, where the
-/// order is mixed. It has no divisor in common with their count.
+/// How many states, in the order of their days, one lies behind the one that was accepted before it, where
+/// the order is mixed. It has no divisor in common with their count.
 const MIXED: u32 = 1597;
 
 /// The place of the last of 128 subscriptions.
@@ -193,7 +194,8 @@ fn last_turn(alloc: Global, blocks: &Blocks) -> Option<Reach> {
     Some(days.last()?.reach())
 }
 
-/// So many states, each of which lies so many behind the one that was accepted before it, in the order of their days.
+/// So many states, each of which lies so many behind the one that was accepted before it, in the order of
+/// their days.
 fn blocks(alloc: Global, count: u32, step: u32) -> Option<Blocks> {
     let mut blocks = Blocks::new(alloc);
     for number in 0..count {
