@@ -58,27 +58,32 @@ print_cost() {
     echo "    after $((seconds / 60)) min $((seconds % 60)) s; out/ takes $disk MB"
 }
 
-# Runs the program as it is written.
-try() {
-    # shellcheck disable=SC2086
-    if ! (cd crates/billd && rt try -- $1) 2>"$work/tried"; then
+# Runs the program as it is written, compiled once: on the words that make the lanes of a folder, and then on
+# those that answer the lines, whose answers it prints.
+try_month() {
+    mkdir "$work/cases"
+    : >"$work/cases/1-init"
+    init_words "$1" | tr ' ' '\n' >"$work/cases/1-init.args"
+    cp "$lines" "$work/cases/2-month"
+    apply_words "$1" | tr ' ' '\n' >"$work/cases/2-month.args"
+    if ! (cd crates/billd && rt try --cases "$work/cases") >"$work/printed" 2>"$work/tried"; then
         tail -n 20 "$work/tried" >&2
         echo "demo.sh: the program couldn't be tried" >&2
         exit 1
     fi
+    sed '1,/^== 2-month$/d' "$work/printed"
 }
 
 echo "1. The program as it is written. Nothing is proved yet: the toolchain only compiles it."
 mkdir "$work/first"
-try "$(init_words "$work/first")"
-try "$(apply_words "$work/first")" <"$lines" >"$work/answers"
+try_month "$work/first" >"$work/answers"
 print_answers "$work/answers"
 print_journals "$work/first"
 print_cost
 [ "${1-}" != --quick ] || exit 0
 
 echo
-echo "2. The proof of the program and of each library below it, then the build. What is proved is kept in out/."
+echo "2. The proof of the program and of each library below it, then the build. It is kept in out/."
 mkdir "$work/second"
 words=$(init_words "$work/second")
 {
@@ -102,7 +107,7 @@ print_journals "$work/second"
 print_cost
 
 echo
-echo "4. The same lines again. Each key has acted: each command gets the answer that it got, and no byte is added."
+echo "4. The same lines again. Each key has acted: a command gets the answer that it got, and no byte is added."
 # shellcheck disable=SC2046
 "$billd" $(apply_words "$work/second") <"$lines" >"$work/again"
 grep -c '"command":' "$work/again" | sed 's/$/ answers to commands/; s/^/    /'

@@ -88,7 +88,8 @@ impl<R: Files<File = File>> Vault for FolderVault<'_, R> {
 
     ghost faults = { λ vault. vault.faults };
 
-    /// Opens the file of a lane, and makes an empty one where there is none. The folder must be there.
+    /// Opens the file of a lane, and makes an empty one where there is none. The folder must be there. It
+    /// fails while another program has the lane.
     #[tactic(auto, using(crate::proofs::Amongs::among_added))]
     fn lane(&mut self, alloc: Global, folder: &str, lane: u32) -> Result<FileDisk, FileFault> {
         let place = Place::new(alloc, folder, lane)?;
@@ -99,7 +100,7 @@ impl<R: Files<File = File>> Vault for FolderVault<'_, R> {
         Ok(FileDisk::new(file))
     }
 
-    /// Closes the file of a lane.
+    /// Closes the file of a lane, so that another program may have it.
     #[tactic(auto, using(crate::proofs::Amongs::among_struck))]
     fn back(&mut self, folder: &str, lane: u32, disk: FileDisk) {
         self.out.strike(folder, lane);
@@ -114,7 +115,7 @@ impl<R: Files<File = File>> Vault for FolderVault<'_, R> {
     ghost untold = { λ _ _ _ _. refl };
 }
 
-/// Opens a lane's file, and makes it where there is none.
+/// Opens a lane's file for this program alone, and makes it where there is none.
 fn open_lane<R: Files<File = File>>(system: &R, folder: &str, path: &str) -> io::Result<File> {
     let parent = File::open(system, folder)?;
     let file = File::options()
@@ -122,6 +123,9 @@ fn open_lane<R: Files<File = File>>(system: &R, folder: &str, path: &str) -> io:
         .write(true)
         .create(true)
         .open(system, path)?;
+    if file.try_lock().is_err() {
+        return Err(io::ErrorKind::WouldBlock.into());
+    }
     // A crash may take a file that was just made away again, until its folder is synced.
     parent.sync_all()?;
     Ok(file)

@@ -25,6 +25,24 @@ fn a_folder_keeps_what_was_written(rt: HostRuntime) -> Result<(), Fail> {
 }
 
 #[test]
+fn a_lane_that_is_out_is_no_one_elses(rt: HostRuntime) -> Result<(), Fail> {
+    let alloc = rt.alloc();
+    fs::create_dir(&rt, "store")?;
+    let mut vault = FolderVault::new(alloc, &rt);
+    let mut other = FolderVault::new(alloc, &rt);
+    let disk = vault.lane(alloc, "store", 0)?;
+    let Err(fault) = other.lane(alloc, "store", 0) else {
+        return Err("a lane that another program has".into());
+    };
+    vault.back("store", 0, disk);
+    let disk = other.lane(alloc, "store", 0)?;
+    other.back("store", 0, disk);
+    same(&rt, &fault, &FileFault::Failed, &"");
+    fs::remove_file(&rt, "store/lane-00.kbj")?;
+    Ok(fs::remove_dir(&rt, "store")?)
+}
+
+#[test]
 fn a_folder_must_be_there(rt: HostRuntime) -> Result<(), Fail> {
     let alloc = rt.alloc();
     let mut vault = FolderVault::new(alloc, &rt);
