@@ -5,9 +5,9 @@ ghost use Rattle.kb_endings.specs.Endings.{NeedsMemory, last_line, text_words};
 ghost use Rattle.kb_endings.specs.Private.Lines.{line_bytes};
 
 use crate::Stop;
-use itoa::Buffer;
 use kb_base::NoMemory;
 use kb_catalog_text::TextFault;
+use kb_digits::{push, push_count};
 use kb_lines::Stop as RunStop;
 use std::alloc::Global;
 
@@ -79,7 +79,7 @@ fn not_empty_line(alloc: Global, lane: u32) -> Result<Vec<u8>, NoMemory>
 {
     let mut line = Vec::new(alloc);
     push(&mut line, b"billd: not empty ")?;
-    push_number(&mut line, lane.into())?;
+    push_count(&mut line, lane.into())?;
     push(&mut line, b"\n")?;
     Ok(line)
 }
@@ -124,7 +124,7 @@ fn push_length(line: &mut Vec<u8>, count: u64) -> Result<(), NoMemory>
     ensures { OnOk result (line.new.items ≡ line.old.items ++ (codes "text 7 " ++ decimal count)) }
 {
     push(line, b"text 7 ")?;
-    push_number(line, count)
+    push_count(line, count)
 }
 
 /// Adds two numbers with a space between them.
@@ -132,17 +132,9 @@ fn push_numbers(line: &mut Vec<u8>, first: u64, second: u64) -> Result<(), NoMem
     ensures { OnOk result (line.new.items
         ≡ line.old.items ++ (decimal first ++ codes " " ++ decimal second)) }
 {
-    push_number(line, first)?;
+    push_count(line, first)?;
     push(line, b" ")?;
-    push_number(line, second)
-}
-
-/// Adds a number in decimal digits.
-fn push_number(line: &mut Vec<u8>, number: u64) -> Result<(), NoMemory>
-    ensures { OnOk result (line.new.items ≡ line.old.items ++ decimal number) }
-{
-    let mut digits = Buffer::new();
-    push(line, digits.format(number).as_bytes())
+    push_count(line, second)
 }
 
 /// Adds words, and a key behind them.
@@ -151,11 +143,4 @@ fn push_pair(line: &mut Vec<u8>, words: &[u8], key: &[u8]) -> Result<(), NoMemor
 {
     push(line, words)?;
     push(line, key)
-}
-
-/// Adds bytes.
-fn push(line: &mut Vec<u8>, bytes: &[u8]) -> Result<(), NoMemory>
-    ensures { OnOk result (line.new.items ≡ line.old.items ++ bytes.now) }
-{
-    Ok(line.extend_from_slice(bytes)?)
 }

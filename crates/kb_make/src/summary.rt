@@ -4,8 +4,8 @@ ghost use Rattle.std.specs.Fmt.{signed_decimal};
 ghost use Rattle.kb_make.specs.Summaries.{summary_text};
 ghost use Rattle.kb_make.specs.Private.Lines.{counts_text, sums_text, balances_text};
 
-use itoa::Buffer;
 use kb_base::NoMemory;
+use kb_digits::push;
 use kb_reports::Totals;
 use std::alloc::Global;
 
@@ -55,23 +55,14 @@ fn push_balances(text: &mut Vec<u8>, totals: &Totals) -> Result<(), NoMemory>
 fn push_count(text: &mut Vec<u8>, word: &[u8], count: u64) -> Result<(), NoMemory>
     ensures { OnOk result (text.new.items ≡ text.old.items ++ (word.now ++ decimal count)) }
 {
-    let mut digits = Buffer::new();
     push(text, word)?;
-    push(text, digits.format(count).as_bytes())
+    kb_digits::push_count(text, count)
 }
 
 /// Adds a word, and a sum in minor units.
 fn push_sum(text: &mut Vec<u8>, word: &[u8], sum: i128) -> Result<(), NoMemory>
     ensures { OnOk result (text.new.items ≡ text.old.items ++ (word.now ++ signed_decimal sum)) }
 {
-    let mut digits = Buffer::new();
     push(text, word)?;
-    push(text, digits.format(sum).as_bytes())
-}
-
-/// Adds bytes.
-fn push(text: &mut Vec<u8>, bytes: &[u8]) -> Result<(), NoMemory>
-    ensures { OnOk result (text.new.items ≡ text.old.items ++ bytes.now) }
-{
-    Ok(text.extend_from_slice(bytes)?)
+    kb_digits::push_sum(text, sum)
 }
