@@ -3,16 +3,12 @@ use Rattle.std.proofs.Common.{ℕ, true, false, ◌≡◌, ◌+◌, ◌≤◌, �
 use Rattle.std.proofs.Common.{drop, refl, sym, ◌∙◌, ap, subst, inl, inr, arith, append_assoc, length-append}
 use Rattle.std.proofs.lemmas.List.{take_at, drop_at}
 use Rattle.std.proofs.lemmas.Nat.{from_be_bytes-to_be_bytes_2, from_be_bytes-to_be_bytes_4}
-use Rattle.kb_journal.specs.declared.fault.LoadFault.{LoadFault}
-use Rattle.kb_journal.specs.declared.fault.LoadFault.TheVariants.{NotAJournal, DiskFault, NoMemory}
-use Rattle.kb_journal.specs.Keeping.{TellsPlace}
-use Rattle.kb_journal.specs.Private.Parts.{IsMisread}
 use Rattle.kb_journal.specs.Format.{framed, blocks, body, IsSized, AreSized, IsClosed, StandsFor}
 use Rattle.kb_journal.specs.Reading.{number_at, told_size, zeros, Begins, IsHeaderFault, IsCutShort, IsCutAt}
 use Rattle.kb_journal.specs.Reading.{IsNoJournal}
 
 -- a record tells its length
-told_framed : (one rest : List ℕ) → IsSized one → told_size (framed one ++ rest) ≡ length one
+pub told_framed : (one rest : List ℕ) → IsSized one → told_size (framed one ++ rest) ≡ length one
 told_framed one rest sized = from_be_bytes-to_be_bytes_4 (length one) (omega (arith, sized.few))
 
 -- a whole record with something behind it isn't cut short
@@ -165,7 +161,7 @@ not_both lanes lane records bytes some few fits stands at (inr cut) =
     let shut : true ≡ false = subst Closed gates.gate stands.closed in cc
 
 -- bytes show at one place that they are no journal
-one_place : (lane : ℕ) (bytes : List ℕ) → lane < 2 ^ 16 → (a b : ℕ) → IsNoJournal lane bytes a
+pub one_place : (lane : ℕ) (bytes : List ℕ) → lane < 2 ^ 16 → (a b : ℕ) → IsNoJournal lane bytes a
     → IsNoJournal lane bytes b
     → a ≡ b
 one_place lane bytes fits a b (inl p) (inl q) = one_header_fault lane bytes a b p q
@@ -183,11 +179,3 @@ one_place lane bytes fits a b (inr p) (inr q) =
     (inr (refl, q.cut)) in
     p.place ∙ ap (λ (records : List (List ℕ)). length (body (number_at 8 bytes) lane records)) both.all
     ∙ sym q.place
-
--- so what is told of them is that place
-pub tells_place : (lane : ℕ) (bytes : List ℕ) → lane < 2 ^ 16 → (fault : LoadFault)
-    → IsMisread lane bytes fault → (at : ℕ)
-    → IsNoJournal lane bytes at → TellsPlace at fault
-tells_place lane bytes fits (NotAJournal told) misread at is = one_place lane bytes fits told at misread is
-tells_place lane bytes fits DiskFault misread at is = tt
-tells_place lane bytes fits NoMemory misread at is = tt

@@ -4,5 +4,6 @@ pub mod Filled
 pub mod OneMore
 pub mod Outcomes
 pub mod Parts
+pub mod Told
 pub mod Torn
 pub mod Whole

@@ -3,11 +3,11 @@ use Rattle.std.proofs.Common.{ℕ, suc, ◌≡◌, ◌+◌, ◌-◌, ◌≤◌, 
 use Rattle.std.proofs.Common.{sym, ◌∙◌, ap, arith, append_assoc, length-append, length-drop}
 use Rattle.std.proofs.lemmas.List.{drop-drop, take_all}
 use Rattle.kb_journal.specs.Format.{framed, blocks, IsSized}
-use Rattle.kb_journal.specs.Private.Parts.{AreRead}
+use Rattle.kb_journal.specs.Private.Parts.{AreRead, IsEnd}
 use Rattle.kb_journal.proofs.Bodies.{blocks-push, AreSized-push}
 
 -- before the first record
-pub none_read : (bytes : List ℕ) → 1 ≤ length bytes → AreRead [] 0 bytes
+none_read : (bytes : List ℕ) → 1 ≤ length bytes → AreRead [] 0 bytes
 unfolding blocks
 none_read bytes some = record {
   sized = tt;
@@ -17,7 +17,7 @@ none_read bytes some = record {
 }
 
 -- one record more
-pub one_more_read : (records : List (List ℕ)) (place : ℕ) (bytes rest found : List ℕ)
+one_more_read : (records : List (List ℕ)) (place : ℕ) (bytes rest found : List ℕ)
     → AreRead records place bytes
     → take (length bytes - place) (drop place bytes) ≡ 1 ∷ rest
     → rest ≡ framed found ++ drop (4 + length found) rest → IsSized found
@@ -47,3 +47,24 @@ one_more_read records place bytes rest found read behind_gate whole one gate =
       );
       more = omega (arith, read.more, length-drop place bytes, ap length is_open);
     }
+
+-- no record before the first gate
+pub none_before : (bytes : List ℕ) → 1 ≤ length bytes → IsEnd 0 0 bytes
+none_before bytes some = record {
+  records = [];
+  read = none_read bytes some;
+  counted = refl;
+  few = omega arith;
+}
+
+-- one record more before the next gate
+pub one_more_before : (count place : ℕ) (bytes rest found : List ℕ) → IsEnd count place bytes
+    → take (length bytes - place) (drop place bytes) ≡ 1 ∷ rest
+    → rest ≡ framed found ++ drop (4 + length found) rest → IsSized found
+    → 4 + length found < length rest → IsEnd (count + 1) (place + (length found + 5)) bytes
+one_more_before count place bytes rest found end behind_gate whole one gate = record {
+  records = end.records ++ found ∷ [];
+  read = one_more_read end.records place bytes rest found end.read behind_gate whole one gate;
+  counted = omega (arith, end.counted, length-append end.records (found ∷ []));
+  few = omega (arith, end.few);
+}

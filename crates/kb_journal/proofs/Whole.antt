@@ -2,11 +2,9 @@
 use Rattle.std.proofs.Common.{ℕ, ◌≡◌, ◌+◌, ◌≤◌, List, ◌++◌, length, drop, get_or, sym, ◌∙◌, ap, subst, inr}
 use Rattle.std.proofs.Common.{arith, append_assoc, length-append}
 use Rattle.std.proofs.lemmas.List.{drop_more}
-use Rattle.kb_journal.specs.declared.fault.LoadFault.{LoadFault}
-use Rattle.kb_journal.specs.declared.fault.LoadFault.TheVariants.{NotAJournal, DiskFault, NoMemory}
 use Rattle.kb_journal.specs.Format.{header, blocks, body, IsClosed, StandsFor}
-use Rattle.kb_journal.specs.Reading.{number_at, IsCutAt}
-use Rattle.kb_journal.specs.Private.Parts.{AreRead, IsCutBehind, StopsReading, IsMisread}
+use Rattle.kb_journal.specs.Reading.{number_at, IsCutAt, IsNoJournal}
+use Rattle.kb_journal.specs.Private.Parts.{AreRead, IsCutBehind}
 
 module _ (bytes : List ℕ) (lanes lane : ℕ) (begins : bytes ≡ header lanes lane ++ drop 16 bytes) where
   -- the bytes, parted at the next gate
@@ -37,12 +35,11 @@ module _ (bytes : List ℕ) (lanes lane : ℕ) (begins : bytes ≡ header lanes 
         (blocks records),
   )
 
-  -- why the bytes aren't read, told of all of them
-  pub misread : (fault : LoadFault) → 1 ≤ lanes → lanes ≤ 64 → lanes ≡ number_at 8 bytes
-      → StopsReading (drop 16 bytes) fault → IsMisread lane bytes fault
-  misread (NotAJournal at) some few told stops =
-      let cut : IsCutBehind (drop 16 bytes) stops.0 = stops.2 in
-      let P : ℕ → Type 0 = λ n. IsCutAt n lane bytes at in
+  -- where they show that they are no journal
+  pub misread : (place : ℕ) → 1 ≤ lanes → lanes ≤ 64 → lanes ≡ number_at 8 bytes
+      → IsCutBehind (drop 16 bytes) place → IsNoJournal lane bytes (place + 16)
+  misread place some few told cut =
+      let P : ℕ → Type 0 = λ n. IsCutAt n lane bytes (place + 16) in
       inr (subst P told (record {
         some_lanes = some;
         few_lanes = few;
@@ -50,9 +47,7 @@ module _ (bytes : List ℕ) (lanes lane : ℕ) (begins : bytes ≡ header lanes 
         rest = cut.rest;
         sized = cut.read.sized;
         cut = cut.cut;
-        parts = parted cut.records stops.0 cut.read
+        parts = parted cut.records place cut.read
             ∙ ap (λ (l : List ℕ). body lanes lane cut.records ++ l) cut.open_gate;
-        place = stops.1 ∙ placed_read cut.records stops.0 cut.read;
+        place = placed_read cut.records place cut.read;
       }))
-  misread DiskFault some few told stops = absurd stops
-  misread NoMemory some few told stops = tt

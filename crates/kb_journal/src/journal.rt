@@ -17,7 +17,7 @@
 //! 2. The gate is opened only over a record that is synced with a closed gate behind it.
 //! 3. A record is acknowledged only after the sync of its open gate.
 ghost use Rattle.std.specs.Prelude.{◌≡◌, ◌≤◌, ◌<◌, ◌+◌, ◌↔◌, ℕ, List, [], ◌∷◌, ◌++◌, true, false};
-ghost use Rattle.std.specs.Prelude.{IsTrue, IfOk, IfErr, OnOk, OnErr, IsErrOf, MatchResult, length, map};
+ghost use Rattle.std.specs.Prelude.{IsTrue, IfOk, IfErr, OnOk, OnErr, IsErrOf, MatchResult, length};
 ghost use Rattle.kb_base.specs.Faults.{Rose};
 ghost use Rattle.kb_disk.specs.Moments.{AtEachMoment};
 ghost use Rattle.kb_journal.specs.declared.fault.AppendFault.TheVariants.{Stopped, Full, DiskFault};
@@ -27,8 +27,8 @@ ghost use Rattle.kb_journal.specs.Reading.{IsNoJournal};
 ghost use Rattle.kb_journal.specs.Unwritten.{IsUnwritten};
 
 use crate::{
-    AppendFault, CreateFault, LoadFault, header_block, read_contents, read_synced, write_record,
-    write_through,
+    AppendFault, CreateFault, LoadFault, Records, header_block, read_contents, read_synced,
+    write_record, write_through,
 };
 use kb_disk::Disk;
 use std::alloc::Global;
@@ -120,18 +120,15 @@ impl<D: Disk> Journal<D> {
     }
 
     /// The journal of this lane on a disk, with its records. The disk is synced first, and nothing is
-    /// written. A fault gives the disk back.
-    pub fn load(
-        alloc: Global,
-        disk: D,
-        lane: u16,
-    ) -> Result<(Journal<D>, Vec<Vec<u8>>), (LoadFault, D)>
+    /// written. The bytes of the disk are read into memory once, and the records stay in them. A fault gives
+    /// the disk back.
+    pub fn load(alloc: Global, disk: D, lane: u16) -> Result<(Journal<D>, Records), (LoadFault, D)>
         ensures holds { IsTrue (D.honest disk) → IfOk result (λ loaded.
-            Holds D.honest D.seen D.images loaded.0 (map (λ one. one.items) loaded.1.items)) }
+            Holds D.honest D.seen D.images loaded.0 loaded.1) }
         ensures seen { IsTrue (D.honest disk) → IfOk result (λ loaded. D.seen loaded.0.disk ≡ D.seen disk) }
         ensures made { IfOk result (λ loaded. loaded.0 ≡ record loaded.0 {
           lane = lane;
-          count = length loaded.1.items;
+          count = length loaded.1;
           stopped = false;
         }) }
         ensures some_lanes { IfOk result (λ loaded. 1 ≤ loaded.0.lanes) }
@@ -151,7 +148,7 @@ impl<D: Disk> Journal<D> {
             Ok(bytes) => bytes,
             Err(fault) => return Err((fault, disk)),
         };
-        match read_contents(alloc, &bytes, lane) {
+        match read_contents(bytes, lane) {
             Ok(found) => {
                 let journal = Journal {
                     disk,
@@ -163,7 +160,7 @@ impl<D: Disk> Journal<D> {
                 };
                 Ok((journal, found.records))
             }
-            Err(fault) => Err((fault, disk)),
+            Err(at) => Err((LoadFault::NotAJournal(at), disk)),
         }
     }
 

@@ -1,89 +1,115 @@
-//! The records of a journal, as they are read.
-ghost use Rattle.std.specs.Prelude.{◌≡◌, ◌≤◌, ◌<◌, ◌+◌, ◌++◌, ◌∷◌, [], length, drop, take, map, get_or};
-ghost use Rattle.std.specs.Prelude.{IfNone, IfSome, IfOk, IfErr, OnOk};
+//! The records of a journal, in the bytes that were read.
+ghost use Rattle.std.specs.Prelude.{◌≡◌, ◌≤◌, ◌+◌, length, drop, take};
+ghost use Rattle.std.specs.Iterator.{YieldsFirstRef, item_count};
 ghost use Rattle.std.specs.Int.{w32, to_be_bytes};
-ghost use Rattle.kb_journal.specs.declared.fault.LoadFault.TheVariants.{NoMemory};
-ghost use Rattle.kb_journal.specs.Format.{framed, IsSized, IsClosed};
-ghost use Rattle.kb_journal.specs.Reading.{told_size, IsCutShort};
-ghost use Rattle.kb_journal.specs.Private.Parts.{AreRead, StopsReading};
+ghost use Rattle.kb_journal.specs.Reading.{told_size};
+ghost use Rattle.kb_journal.specs.Records.{first_told, behind_first, told};
+ghost use Rattle.kb_journal.specs.Private.Parts.{AreThere};
 
-use crate::{LoadFault, MAX_RECORD};
-use std::alloc::Global;
+use std::marker::Model;
 
-/// Records, and the place of the gate behind them.
+/// The records of a journal, in order. They stand in the bytes of the journal, which are kept as they were
+/// read.
 #[derive(Drop)]
 pub struct Records {
-    pub records: Vec<Vec<u8>>,
-    pub gate: usize,
+    bytes: Vec<u8>,
+    count: usize,
 }
 
-/// The records of bytes that begin at a gate, up to the first closed gate.
-pub fn read_records(alloc: Global, bytes: &[u8]) -> Result<Records, LoadFault>
-    requires some { 1 ≤ length bytes.now }
-    ensures read { IfOk result (λ found.
-        AreRead (map (λ one. one.items) found.records.items) found.gate bytes.now) }
-    ensures closed { IfOk result (λ found. IsClosed (get_or bytes.now found.gate 0)) }
-    ensures fault { IfErr result (StopsReading bytes.now) }
-{
-    let mut records = Vec::new(alloc);
-    let mut gate = 0;
-    while let Some(rest) = behind_open(&bytes[gate..]) {
-        let Some(record) = first_record(rest) else {
-            return Err(LoadFault::NotAJournal(gate as u64 + 16));
-        };
-        push_copy(alloc, &mut records, record)?;
-        gate += record.len() + 5;
+impl Model for Records {
+    ghost use Rattle.std.specs.Prelude.{List, ℕ, ◌≤◌, length, drop};
+    ghost use Rattle.kb_journal.specs.Records.{told};
+    ghost use Rattle.kb_journal.specs.Private.Parts.{AreThere};
+
+    ghost Value = { List (List ℕ) };
+
+    ghost view = { λ records. told records.count (drop 16 records.bytes.items) };
+
+    ghost invariant = { λ records.
+        (16 ≤ length records.bytes.items) × AreThere records.count (drop 16 records.bytes.items) };
+}
+
+impl Records {
+    /// So many records behind a header.
+    pub(crate) fn behind_header(bytes: Vec<u8>, count: usize) -> Records
+        requires header { 16 ≤ length bytes.items }
+        requires there { AreThere count (drop 16 bytes.items) }
+        ensures { result ≡ told count (drop 16 bytes.items) }
+    {
+        Records { bytes, count }
     }
-    Ok(Records { records, gate })
-}
 
-/// Adds a copy of a record.
-fn push_copy(alloc: Global, records: &mut Vec<Vec<u8>>, bytes: &[u8]) -> Result<(), LoadFault>
-    ensures pushed { OnOk result (map (λ one. one.items) records.new.items
-        ≡ map (λ one. one.items) records.old.items ++ bytes.now ∷ []) }
-    ensures no_memory { IfErr result (λ fault. fault ≡ NoMemory) }
-{
-    records.push(bytes.to_vec(alloc)?)?;
-    Ok(())
-}
-
-/// What stands behind a gate, if it is open.
-fn behind_open(bytes: &[u8]) -> Option<&[u8]>
-    requires some { 1 ≤ length bytes.now }
-    ensures open { IfSome result (λ rest. bytes.now ≡ 1 ∷ rest.now) }
-    ensures closed { IfNone result (IsClosed (get_or bytes.now 0 0)) }
-{
-    if bytes[0] != 1 {
-        return None;
+    /// How many there are.
+    pub fn len(&self) -> usize
+        ensures { result ≡ length self.now }
+    {
+        self.count
     }
-    Some(&bytes[1..])
+
+    /// All of them, one after another.
+    pub fn iter(&self) -> RecordsLeft<'_>
+        ensures { result ≡ self.now }
+    {
+        RecordsLeft {
+            bytes: &self.bytes[16..],
+            count: self.count,
+        }
+    }
+}
+
+/// The records of a journal that are left, when some were gone over.
+#[derive(Drop)]
+pub struct RecordsLeft<'a> {
+    bytes: &'a [u8],
+    count: usize,
+}
+
+impl<'a> Model for RecordsLeft<'a> {
+    ghost use Rattle.std.specs.Prelude.{List, ℕ};
+    ghost use Rattle.kb_journal.specs.Records.{told};
+    ghost use Rattle.kb_journal.specs.Private.Parts.{AreThere};
+
+    ghost Value = { List (List ℕ) };
+
+    ghost view = { λ left. told left.count left.bytes.now };
+
+    ghost invariant = { λ left. AreThere left.count left.bytes.now };
+}
+
+impl<'a> Iterator for RecordsLeft<'a> {
+    type Item = &'a [u8];
+
+    ghost next_gives = { YieldsFirstRef (λ left. left) };
+
+    ghost remaining = { item_count (λ left. left) };
+
+    fn next(&mut self) -> Option<&'a [u8]> {
+        if self.count == 0 {
+            return None;
+        }
+        let (record, rest) = split_record(self.bytes);
+        self.bytes = rest;
+        self.count -= 1;
+        Some(record)
+    }
+}
+
+/// The record behind the gate that bytes begin at, and what follows it.
+fn split_record(bytes: &[u8]) -> (&[u8], &[u8])
+    requires there { told_size (drop 1 bytes.now) + 5 ≤ length bytes.now }
+    ensures first { result.0.now ≡ first_told bytes.now }
+    ensures rest { result.1.now ≡ behind_first bytes.now }
+{
+    let size = read_size(&bytes[1..]) as usize;
+    bytes[5..].split_at(size)
 }
 
 /// The length that a record tells of itself.
-fn read_size(bytes: &[u8]) -> u32
+pub fn read_size(bytes: &[u8]) -> u32
     requires in_range { 4 ≤ length bytes.now }
     ensures read { result ≡ told_size bytes.now }
     ensures written { to_be_bytes w32 result ≡ take 4 bytes.now }
 {
     let part = &bytes[..4];
     u32::from_be_bytes([part[0], part[1], part[2], part[3]])
-}
-
-/// The record behind an open gate, if it is whole and a gate stands behind it.
-#[tactic(auto, using(crate::proofs::Parts::record_whole))]
-fn first_record(bytes: &[u8]) -> Option<&[u8]>
-    ensures whole { IfSome result (λ found.
-        bytes.now ≡ framed found.now ++ drop (4 + length found.now) bytes.now) }
-    ensures sized { IfSome result (λ found. IsSized found.now) }
-    ensures gate { IfSome result (λ found. 4 + length found.now < length bytes.now) }
-    ensures cut { IfNone result (IsCutShort bytes.now) }
-{
-    if bytes.len() < 4 {
-        return None;
-    }
-    let size = read_size(bytes) as usize;
-    if size < 1 || MAX_RECORD < size || bytes.len() < size + 5 {
-        return None;
-    }
-    Some(&bytes[4..4 + size])
 }
