@@ -14,8 +14,8 @@ pub struct End {
     pub gate: usize,
 }
 
-/// The first closed gate in bytes that begin at a gate, or the place of an open one before it that has no whole
-/// record behind it.
+/// The first closed gate in bytes that begin at a gate, or the place of an open one before it that has no
+/// whole record behind it.
 pub fn find_end(bytes: &[u8]) -> Result<End, usize>
     requires some { 1 ≤ length bytes.now }
     ensures end { IfOk result (λ end. IsEnd end.count end.gate bytes.now) }

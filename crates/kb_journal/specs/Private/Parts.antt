@@ -1,5 +1,6 @@
 -- Records that were read from bytes, and where that ended.
-use Rattle.std.specs.Prelude.{ℕ, zero, suc, ◌≡◌, ◌≤◌, ◌<◌, ◌+◌, Bool, IsTrue, ⊤, List, ◌∷◌, ◌++◌, length, drop}
+use Rattle.std.specs.Prelude.{ℕ, zero, suc, ◌≡◌, ◌≤◌, ◌<◌, ◌+◌, Bool, IsTrue, ⊤, List, ◌∷◌, ◌++◌, length}
+use Rattle.std.specs.Prelude.{drop}
 use Rattle.kb_base.specs.Faults.{Rose}
 use Rattle.kb_journal.specs.declared.fault.LoadFault.{LoadFault}
 use Rattle.kb_journal.specs.declared.fault.LoadFault.TheVariants.{NotAJournal, DiskFault, NoMemory}
