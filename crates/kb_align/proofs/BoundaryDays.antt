@@ -35,7 +35,7 @@ IsDayBoundary-true count start day passed =
     ((day - start) / count, omega (arith, begun, none_left, whole))
 
 -- the first month is found by a look at the start's month
-IsFirstMonth-first_month : (start bcd : ℕ) → IsFirstMonth start bcd (first_month start bcd)
+pub IsFirstMonth-first_month : (start bcd : ℕ) → IsFirstMonth start bcd (first_month start bcd)
 unfolding first_month
 IsFirstMonth-first_month start bcd =
     elim (cases_lt (mark (month_of start) bcd) start) [

@@ -5,3 +5,4 @@ pub mod Neighbours
 pub mod Tiles
 pub mod Searches
 pub mod BoundaryDays
+mod OneMonth

@@ -62,8 +62,29 @@ fn period_of_months(start: Reach, months: u32, bcd: Bcd, day: Reach) -> (Reach, 
     ensures period { IsBetween (IsMonthBoundary months start bcd) day result.0 result.1 }
     ensures longest { result.1 ≤ result.0 + max_period_days }
 {
+    if months == 1 {
+        return period_of_one_month(start, bcd, day);
+    }
     let month = last_whole(first_month(start, bcd), months, last_month(day, bcd));
     (mark(month, bcd), mark(month + months, bcd))
+}
+
+/// The period of one month in which a day lies: each month's cycle day is a boundary.
+#[tactic(auto, using(crate::proofs::FirstMonths::first_months))]
+fn period_of_one_month(start: Reach, bcd: Bcd, day: Reach) -> (Reach, Reach)
+    requires named { first_day ≤ start }
+    requires begun { start ≤ day }
+    requires last { day ≤ last_charged }
+    ensures period { IsBetween (IsMonthBoundary 1 start bcd) day result.0 result.1 }
+    ensures longest { result.1 ≤ result.0 + max_period_days }
+{
+    let month = month_of(day);
+    let marked = mark(month, bcd);
+    if day < marked {
+        (mark(month - 1, bcd), marked)
+    } else {
+        (marked, mark(month + 1, bcd))
+    }
 }
 
 /// The last month up to a month that lies whole periods of so many months before or after a first one.
