@@ -3,7 +3,7 @@ ghost use Rattle.kb_journal.specs.Format.{IsSized};
 
 use kb_base::NoMemory;
 use kb_disk::MemoryDisk;
-use kb_journal::{Journal, LoadFault};
+use kb_journal::{Journal, LoadFault, Records};
 use std::alloc::Global;
 
 /// The bytes of a journal of lane 0 of 1 with one record.
@@ -21,7 +21,7 @@ pub fn with_record(alloc: Global, record: &[u8]) -> Result<Vec<u8>, NoMemory>
 }
 
 /// The records that bytes tell as a journal of a lane, and the number of lanes.
-pub fn loaded(alloc: Global, bytes: &[u8], lane: u16) -> Result<(Vec<Vec<u8>>, u16), LoadFault> {
+pub fn loaded(alloc: Global, bytes: &[u8], lane: u16) -> Result<(Records, u16), LoadFault> {
     let Ok(disk) = MemoryDisk::new(alloc, bytes.to_vec(alloc)?, Vec::new(alloc)) else {
         return Err(LoadFault::NoMemory);
     };

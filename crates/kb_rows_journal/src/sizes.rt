@@ -5,7 +5,7 @@ use crate::compare::same;
 use crate::journals::{loaded, with_record};
 use kb_base::NoMemory;
 use kb_disk::MemoryDisk;
-use kb_journal::{Journal, LoadFault};
+use kb_journal::{Journal, LoadFault, Records};
 use std::alloc::Global;
 use std::test::Fail;
 
@@ -24,10 +24,10 @@ fn numbered(alloc: Global, count: u32) -> Result<Vec<u8>, NoMemory> {
 }
 
 /// Whether each record is its own number.
-fn are_numbered(records: &[Vec<u8>]) -> bool {
+fn are_numbered(records: &Records) -> bool {
     let mut number = 0_u32;
-    for record in records {
-        if record.as_slice() != number.to_be_bytes().as_slice() {
+    for record in records.iter() {
+        if record != number.to_be_bytes().as_slice() {
             return false;
         }
         number = number.wrapping_add(1);
@@ -59,7 +59,7 @@ fn is_read_back(alloc: Global, record: &[u8]) -> Result<bool, LoadFault>
         return Err(LoadFault::NoMemory);
     };
     let (records, _) = loaded(alloc, &bytes, 0)?;
-    Ok(records.len() == 1 && records[0].as_slice() == record)
+    Ok(records.len() == 1 && records.iter().next() == Some(record))
 }
 
 #[test]
