@@ -1,11 +1,13 @@
 #!/bin/sh
-# Prints how many records a second a journal takes on a real file in the temporary folder, beside a bare loop of the
-# same two writes and two syncs; how fast a journal in memory is loaded; and how much memory it takes to load one from
-# a file, beside the size of the file. It tests nothing. The aims stand beside the figures.
+# Prints how many records a second a journal takes on a real file in the temporary folder, beside a bare
+# loop of the same two writes and two syncs; how fast a journal in memory is loaded; and how much memory it
+# takes to load one from a file, beside the size of the file. It tests nothing. The aims stand beside the
+# figures.
 #
-# The time is taken inside the program, as LLVM builds it. Appends and turns of the bare loop alternate, each on a file
-# of its own, so that whatever else uses the disk slows both; the rate is that of all of them. A load is the best of
-# five, without the drop of what it gives. Records have 200 bytes and, where the memory is taken, 20 and 4,000 too.
+# The time is taken inside the program, as LLVM builds it. Appends and turns of the bare loop alternate, each
+# on a file of its own, so that whatever else uses the disk slows both; the rate is that of all of them. A
+# load is the best of five, with a look at each record, and without the drop of what it gives. Records have
+# 200 bytes and, where the memory is taken, 20 and 4,000 too.
 #
 # The program and the libraries below it are built in a new folder, which takes 3 GB while it is there.
 set -eu
@@ -17,8 +19,8 @@ libraries='kb_base kb_ports kb_disk kb_files kb_journal'
 
 write_program() {
     cat <<'END'
-//! Times journals. A line that is printed has what is timed, how many records or bytes, and the nanoseconds that they
-//! took; or how much memory the process held at most, in KB.
+//! Times journals. A line that is printed has what is timed, how many records or bytes, and the nanoseconds
+//! that they took; or how much memory the process held at most, in KB.
 #![tactic(auto)]
 
 use kb_base::NoMemory;
@@ -129,16 +131,19 @@ fn time_load(rt: &HostRuntime) -> io::Result<()> {
         return Err(io::ErrorKind::OutOfMemory.into());
     };
     let start = Instant::now(rt)?;
-    let loaded = Journal::load(alloc, disk, 0);
-    let nanos = start.elapsed(rt)?.as_nanos();
-    let Ok((_, records)) = loaded else {
+    let Ok((_, records)) = Journal::load(alloc, disk, 0) else {
         return Err(io::ErrorKind::InvalidData.into());
     };
-    println!(rt; "load,{size},{nanos},{}", records.len())
+    let mut found = 0usize;
+    for record in records.iter() {
+        found = found.wrapping_add(record.len());
+    }
+    let nanos = start.elapsed(rt)?.as_nanos();
+    println!(rt; "load,{size},{nanos},{found}")
 }
 
-/// Loads a journal of so many records from a file, and prints its size, and how much memory the process then has held
-/// at most.
+/// Loads a journal of so many records from a file, and prints its size, and how much memory the process then
+/// has held at most.
 fn memory(rt: &HostRuntime, name: &str, record: &[u8], count: u32) -> io::Result<()> {
     let mut file = new_file(rt)?;
     file.write_all(HEADER)?;
