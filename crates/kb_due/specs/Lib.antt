@@ -3,6 +3,7 @@ pub mod Governing
 pub mod Life
 pub mod CycleDays
 pub mod Cells
+pub mod Rates
 pub mod CellStretches
 pub mod DueDays
 pub mod Entitlements

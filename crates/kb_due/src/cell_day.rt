@@ -7,13 +7,12 @@ ghost use Rattle.kb_align.specs.PeriodDays.{max_period_days};
 ghost use Rattle.kb_due.specs.Cells.{is_unbilled, cell_by, cell_on};
 
 use crate::chain::chain_of;
-use crate::cycle_day::cycle_day;
 use crate::governing::{Governing, governing_on};
 use crate::life::is_live;
+use crate::rate::rate_by;
 use crate::{Cell, Facts};
-use kb_align::period_of;
 use kb_blocking::Flag;
-use kb_days::{LAST_CHARGED, Period, Reach};
+use kb_days::{LAST_CHARGED, Reach};
 use kb_timeline::Subscription;
 
 /// The cell of a day of a subscription: none after the last day that may be charged, where it isn't live, or
@@ -60,17 +59,8 @@ pub fn cell_by(
     ensures has_day { IfSome result (λ cell. (cell.start ≤ day) × (day < cell.end)) }
     ensures longest { IfSome result (λ cell. cell.end ≤ cell.start + max_period_days) }
 {
-    if matches!(governing.phase.period, Period::NoBillingPeriod) {
-        return None;
+    match rate_by(facts, subscription, governing) {
+        None => None,
+        Some(rate) => Some(rate.cell(day)),
     }
-    let price = governing.phase.recurring_price(facts.currency)?;
-    let bcd = cycle_day(facts, subscription, governing);
-    let (start, end) = period_of(governing.start, governing.phase.period, bcd, day);
-    Some(Cell {
-        plan: governing.entry.plan,
-        phase: governing.place,
-        start,
-        end,
-        price,
-    })
 }

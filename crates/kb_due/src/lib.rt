@@ -15,6 +15,7 @@ mod facts;
 mod fee;
 mod governing;
 mod life;
+mod rate;
 
 pub use cell::{Cell, Piece};
 pub use cell_day::cell_by;
@@ -26,3 +27,4 @@ pub use facts::Facts;
 pub use fee::{fee_by, fee_on};
 pub use governing::{Choice, Governing, choice_of, governing_on};
 pub use life::{choice_on, is_available, is_kept_on, is_running, lead_of, live};
+pub use rate::{Rate, rate_by};

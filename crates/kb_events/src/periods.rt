@@ -10,7 +10,7 @@ ghost use Rattle.kb_events.specs.Private.Shorts.{AreShort};
 use crate::pushing::push_run;
 use kb_base::NoMemory;
 use kb_days::{Day, Reach};
-use kb_due::{Facts, Governing, Piece, cell_by};
+use kb_due::{Facts, Governing, Piece, rate_by};
 use kb_timeline::Subscription;
 
 /// Adds the cells of the days from one up to another, period after period, while these begin by the billed
@@ -36,11 +36,12 @@ pub(crate) fn push_periods(
     ensures short { OnOk result (AreShort (map stretch_of found.old.items) → AreShort
         (map stretch_of found.new.items)) }
 {
+    let Some(rate) = rate_by(facts, subscription, governing) else {
+        return Ok(());
+    };
     let mut day = from;
     while day < to {
-        let Some(cell) = cell_by(facts, subscription, day, governing) else {
-            return Ok(());
-        };
+        let cell = rate.cell(day);
         if billed.reach() < cell.start {
             return Ok(());
         }
