@@ -10,6 +10,7 @@ pub mod QuietCells
 pub mod PeriodCells
 pub mod PeriodRuns
 pub mod AmongDays
+mod LastPieces
 pub mod LeftMembers
 pub mod QuietCuts
 pub mod BetweenCuts

@@ -1,5 +1,5 @@
 //! Pieces that are told one after another.
-ghost use Rattle.std.specs.Prelude.{◌≡◌, ◌++◌, ◌∷◌, [], map, OnOk};
+ghost use Rattle.std.specs.Prelude.{◌≡◌, ◌++◌, ◌∷◌, [], ◌&&◌, ◌==◌, Some, true, false, map, OnOk};
 ghost use Rattle.kb_base.specs.Intervals.{last_two, push_run};
 ghost use Rattle.kb_due.specs.CellStretches.{same_cell, stretch_of};
 
@@ -21,30 +21,36 @@ pub(crate) fn push_run(
     let Some(cell) = cell else {
         return Ok(());
     };
-    match found.pop() {
-        None => push_piece(found, Piece { from, to, cell }),
-        Some(last) => push_behind(found, last, Piece { from, to, cell }),
+    if lengthen(found, from, to, &cell) {
+        return Ok(());
+    }
+    push_piece(found, Piece { from, to, cell })
+}
+
+/// Makes the last piece longer, up to a day, where it ends on another day and has a cell; says whether it does.
+fn lengthen(found: &mut Vec<Piece>, from: Reach, to: Reach, cell: &Cell) -> bool
+    ensures longer { result ≡ true → map stretch_of found.new.items ≡ push_run same_cell
+        (map stretch_of found.old.items) from to (Some cell.now) }
+    ensures other { result ≡ false → map stretch_of found.old.items ++ record { from = from; to = to; value = cell.now } ∷ []
+        ≡ push_run same_cell (map stretch_of found.old.items) from to (Some cell.now) }
+    ensures same { result ≡ false → found.new.items ≡ found.old.items }
+{
+    let Some(last) = found.last_mut() else {
+        return false;
+    };
+    if goes_on(last, from, cell) {
+        last.to = to;
+        true
+    } else {
+        false
     }
 }
 
-/// Adds two pieces, as one where the second goes on with the first.
-fn push_behind(found: &mut Vec<Piece>, last: Piece, next: Piece) -> Result<(), NoMemory>
-    ensures { OnOk result (map stretch_of found.new.items ≡ map stretch_of found.old.items ++ last_two
-        same_cell (stretch_of last) (stretch_of next)) }
+/// Whether a piece ends on a day, and has a cell.
+fn goes_on(last: &Piece, from: Reach, cell: &Cell) -> bool
+    ensures { result ≡ ((last.now.to == from) && same_cell last.now.cell cell.now) }
 {
-    if last.to == next.from && last.cell == next.cell {
-        push_piece(
-            found,
-            Piece {
-                from: last.from,
-                to: next.to,
-                cell: last.cell,
-            },
-        )
-    } else {
-        push_piece(found, last)?;
-        push_piece(found, next)
-    }
+    last.to == from && last.cell == *cell
 }
 
 /// Adds a piece.
