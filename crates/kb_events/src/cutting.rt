@@ -14,6 +14,9 @@ use kb_due::{Facts, choice_of, lead_of};
 use kb_timeline::{Entry, Subscription};
 use std::alloc::Global;
 
+/// How many cuts most subscriptions have at most.
+const FEW: usize = 16;
+
 /// The days on which something may change that charges a subscription but the boundaries of its periods,
 /// rising, up to the day after the last one that may be charged: the days of its entries and of the
 /// phases that they count, its cancellation, the entries and the cancellation of its lead if it is an add-on,
@@ -27,7 +30,7 @@ pub(crate) fn cuts(
     ensures cuts { IfOk result (λ cuts. AreCuts cuts.items facts.now subscription.now) }
     ensures turned { IfOk result (λ cuts. All (HasDay cuts.items) turns.now) }
 {
-    let mut days = Vec::new(alloc);
+    let mut days = Vec::with_capacity(alloc, FEW)?;
     days.push(END_OF_DAYS)?;
     push_changes(&mut days, facts, subscription, turns)?;
     days.sort()?;
