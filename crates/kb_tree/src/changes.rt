@@ -9,7 +9,7 @@ ghost use Rattle.kb_tree.specs.Covers.{AreInOrder, due_in};
 ghost use Rattle.kb_tree.specs.Private.Walks.{AreChanges};
 
 use crate::ItemNo;
-use crate::charging::{Charged, missing, wrong};
+use crate::charging::{Charged, is_right, missing, wrong};
 use crate::days::{Days, push_run};
 use crate::walking::{earlier, end_of_days, first_charged, next_change, passed, value_at};
 use kb_base::NoMemory;
@@ -78,6 +78,9 @@ fn push_change(
     ensures bills { OnOk result (found.new.bills.items ≡ push_run same_cell found.old.bills.items from to
         (missing_among (option_to_list charge.now) due.now)) }
 {
+    if is_right(charge, due) {
+        return Ok(());
+    }
     push_run(&mut found.repairs, from, to, wrong(charge, due))?;
     push_run(&mut found.bills, from, to, missing(charge, due))
 }

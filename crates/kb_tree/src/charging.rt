@@ -1,5 +1,5 @@
 //! What a day is charged by, and what of that is wrong or missing.
-ghost use Rattle.std.specs.Prelude.{◌≡◌, option_to_list};
+ghost use Rattle.std.specs.Prelude.{◌≡◌, true, None, option_to_list};
 ghost use Rattle.std.specs.List.{list_any};
 ghost use Rattle.kb_due.specs.CellStretches.{same_cell};
 ghost use Rattle.kb_tree.specs.Items as items;
@@ -24,6 +24,17 @@ impl Model for Charged {
     ghost view = { λ charged. record { number = charged.number; cell = charged.cell } };
 
     ghost inverse = { λ charge. record { number = charge.number; cell = charge.cell } };
+}
+
+/// Whether a day is charged by its due cell, or isn't charged where none is due.
+pub(crate) fn is_right(charge: &Option<Charged>, due: &Option<Cell>) -> bool
+    ensures wrong { result ≡ true → wrong_among (option_to_list charge.now) due.now ≡ None }
+    ensures missing { result ≡ true → missing_among (option_to_list charge.now) due.now ≡ None }
+{
+    match charge {
+        None => due.is_none(),
+        Some(charge) => is_due(due, &charge.cell),
+    }
 }
 
 /// The number of the bill that charges a day, if that isn't by the due cell.
