@@ -20,7 +20,8 @@ rate_cell rate day = record {
 }
 
 -- a rate counts its periods as those of what governs are counted
-pub record IsRateOf (facts : FactsValue) (subscription : Subscription) (governing : Governing) (rate : Rate) : Type 0
+pub record IsRateOf (facts : FactsValue) (subscription : Subscription) (governing : Governing)
+    (rate : Rate) : Type 0
   where
     pub start : rate.start ≡ governing.start
     pub period : rate.period ≡ governing.phase.period

@@ -15,7 +15,8 @@ use kb_days::{Bcd, Period, Reach};
 use kb_money::Minor;
 use kb_timeline::{PlanRef, Subscription};
 
-/// All of the cells of the days that one phase governs but their billing periods, and by what these are counted.
+/// All of the cells of the days that one phase governs but their billing periods, and by what these are
+/// counted.
 #[derive(Clone, Copy)]
 pub struct Rate {
     pub plan: PlanRef,

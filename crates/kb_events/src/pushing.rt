@@ -27,11 +27,13 @@ pub(crate) fn push_run(
     push_piece(found, Piece { from, to, cell })
 }
 
-/// Makes the last piece longer, up to a day, where it ends on another day and has a cell; says whether it does.
+/// Makes the last piece longer, up to a day, where it ends on another day and has a cell; says whether it
+/// does.
 fn lengthen(found: &mut Vec<Piece>, from: Reach, to: Reach, cell: &Cell) -> bool
     ensures longer { result ≡ true → map stretch_of found.new.items ≡ push_run same_cell
         (map stretch_of found.old.items) from to (Some cell.now) }
-    ensures other { result ≡ false → map stretch_of found.old.items ++ record { from = from; to = to; value = cell.now } ∷ []
+    ensures other { result ≡ false → map stretch_of found.old.items
+        ++ record { from = from; to = to; value = cell.now } ∷ []
         ≡ push_run same_cell (map stretch_of found.old.items) from to (Some cell.now) }
     ensures same { result ≡ false → found.new.items ≡ found.old.items }
 {

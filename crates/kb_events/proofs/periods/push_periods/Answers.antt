@@ -1,5 +1,5 @@
--- Each period is told after those before it, until one begins after the billed date. Without a rate no day has
--- a cell.
+-- Each period is told after those before it, until one begins after the billed date. Without a rate no day
+-- has a cell.
 use Rattle.std.proofs.Common.{rules, Some, ◌<◌, ◌≤◌, ap, sym, subst, ◌∙◌, map, arith}
 use Rattle.kb_due.specs.CellStretches.{stretch_of}
 use Rattle.kb_events.specs.Private.Shorts.{AreShort}
