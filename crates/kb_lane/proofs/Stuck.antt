@@ -1,8 +1,5 @@
 -- A record of a command that isn't new.
-use Rattle.std.proofs.Common.{◌≡◌, ℕ, suc, ◌<◌, false, List, ◌∷◌, ◌++◌, length, map, take, drop, get_or, sym}
-use Rattle.std.proofs.Common.{ap, ◌∙◌, refl, Some}
-use Rattle.std.proofs.lemmas.List.{map-append}
-use Rattle.std.proofs.Math.Seq.{split_at}
+use Rattle.std.proofs.Common.{◌≡◌, ℕ, false, List, ap, ◌∙◌, refl, Some}
 use Rattle.kb_codec.specs.declared.command.Command.{Command}
 use Rattle.kb_reply.specs.declared.reply.LaneReply.{LaneReply}
 use Rattle.kb_book.specs.declared.refusal.Refusal.{Refusal}
@@ -36,13 +33,3 @@ pub stuck_refused : (machine : MachineValue) (today : ℕ) (command : Command) (
     → refusal_in (judged machine today command) ≡ Some refusal → IsStuck machine bytes
 stuck_refused machine today command bytes refusal only refused =
     stuck machine today command bytes only (refused-new (judged machine today command) refusal refused)
-
--- a list that is read item by item, around the item at a place
-pub parts_around : {A B : Type 0} (read : A → B) (items : List A) (place : ℕ) (item : A)
-    → place < length items
-    → item ≡ get_or items place item
-    → map read items ≡ map read (take place items) ++ (read item ∷ map read (drop (suc place) items))
-parts_around read items place item inside is =
-    ap (map read) (split_at items place item inside
-    ∙ ap (λ there. take place items ++ there ∷ drop (suc place) items) (sym is))
-    ∙ map-append read (take place items) (item ∷ drop (suc place) items)

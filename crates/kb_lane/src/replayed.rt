@@ -1,5 +1,5 @@
 //! Records, performed one after another.
-ghost use Rattle.std.specs.Prelude.{◌≡◌, [], map, IfOk, IfErr};
+ghost use Rattle.std.specs.Prelude.{◌≡◌, [], IfOk, IfErr};
 ghost use Rattle.kb_log.specs.Entries.{Entry, IsEntry, payload, payloads};
 ghost use Rattle.kb_machine.specs.Machines.{no_machine};
 ghost use Rattle.kb_machine.specs.Histories.{replay, AreNewFrom};
@@ -10,7 +10,7 @@ use kb_book::Unprepared;
 use kb_codec::Command;
 use kb_days::Day;
 use kb_history::History;
-use kb_journal::LoadFault;
+use kb_journal::{LoadFault, Records};
 use kb_log::read_payload;
 use kb_machine::{Machine, Planned};
 use std::alloc::Global;
@@ -114,12 +114,12 @@ impl Replayed {
 }
 
 /// What all records lead to, or the first of them that is no new command.
-pub fn replay_all(alloc: Global, records: &[Vec<u8>]) -> Result<Replayed, LoadFault>
-    ensures all { IfOk result (λ past. payloads past ≡ map (λ one. one.items) records.now) }
-    ensures stuck { IfErr result (IsUnreplayed (map (λ one. one.items) records.now)) }
+pub fn replay_all(alloc: Global, records: &Records) -> Result<Replayed, LoadFault>
+    ensures all { IfOk result (λ past. payloads past ≡ records.now) }
+    ensures stuck { IfErr result (IsUnreplayed records.now) }
 {
     let mut past = Replayed::new(alloc);
-    for bytes in records {
+    for bytes in records.iter() {
         match past.add(alloc, bytes) {
             Ok(true) => {}
             Ok(false) => return Err(LoadFault::NotAJournal(past.place())),
