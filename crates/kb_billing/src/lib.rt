@@ -14,7 +14,7 @@ mod subscription;
 
 use cost::days_cost;
 pub use coverage::Coverage;
-use due::{due_pieces, fee_pieces};
+use due::fee_and_due_pieces;
 pub use issue::{Issue, issue_due};
 use line::push_lines;
 pub use subscription::SubscriptionCharges;

@@ -6,7 +6,7 @@ ghost use Rattle.kb_book.specs.Issues as told;
 ghost use Rattle.kb_billing.specs.Numbers.{AreBelow};
 ghost use Rattle.kb_billing.specs.ItemLines.{IsItemLine};
 
-use crate::{Coverage, due_pieces, fee_pieces, push_lines};
+use crate::{Coverage, fee_and_due_pieces, push_lines};
 use kb_base::NoMemory;
 use kb_credit::Line;
 use kb_days::Day;
@@ -75,8 +75,7 @@ pub fn subscription_issue<L: Ledger>(
     ensures plain { IfOk result (λ made. All IsItemLine made.1.items) }
     ensures steps { steps.new ≡ steps.old }
 {
-    let fee_cells = fee_pieces(alloc, facts, sub, billed)?;
-    let due_cells = due_pieces(alloc, facts, sub, billed)?;
+    let (fee_cells, due_cells) = fee_and_due_pieces(alloc, facts, sub, billed)?;
     let (fees, new_fees) = charges.fees.bring_up(alloc, &fee_cells, number, steps)?;
     let next = number + new_fees.len() as u64;
     let (recurring, new_charges) = charges.recurring.bring_up(alloc, &due_cells, next, steps)?;

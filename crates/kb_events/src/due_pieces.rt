@@ -43,7 +43,7 @@ pub fn pieces(alloc: Global, facts: &Facts, sub: u32, billed: Day) -> Result<Vec
 }
 
 /// The pieces of a subscription, from cut to cut.
-fn pieces_by(
+pub(crate) fn pieces_by(
     alloc: Global,
     facts: &Facts,
     subscription: &Subscription,

@@ -42,7 +42,7 @@ pub fn fees(alloc: Global, facts: &Facts, sub: u32, billed: Day) -> Result<Vec<P
 }
 
 /// The fees of a subscription, from cut to cut: a phase starts on no other day.
-fn fees_by(
+pub(crate) fn fees_by(
     alloc: Global,
     facts: &Facts,
     subscription: &Subscription,

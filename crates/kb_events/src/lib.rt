@@ -6,6 +6,7 @@
 #![tactic(auto)]
 
 mod charged;
+mod charges;
 mod course;
 mod cutting;
 mod due_pieces;
@@ -17,5 +18,6 @@ mod pushing;
 mod standing;
 
 pub use charged::charged_through;
+pub use charges::fees_and_pieces;
 pub use due_pieces::pieces;
 pub use fee_pieces::fees;
