@@ -14,10 +14,10 @@ ghost use Rattle.kb_account.specs.Prepares.{prepared_outcome, refusal_by, is_kep
 ghost use Rattle.kb_account.specs.Prepares.{IsOpening, opening_book};
 
 use crate::{Kept, Next, Prepared, State, World};
-use kb_base::{NoMemory, Seq};
+use kb_base::NoMemory;
 use kb_blocking::Blocks;
 use kb_book::{Answer, Unprepared};
-use kb_codec::{Command, OpenAccount, encode};
+use kb_codec::{Command, OpenAccount};
 use kb_credit::Invoices;
 use kb_days::{Day, Name};
 use kb_money::Currency;
@@ -211,8 +211,7 @@ fn first_kept(
     ensures { IfOk result (λ kept. entries kept
         ≡ put by_words key (record { spelling = spelling command.now; answer = answer }) []) }
 {
-    let spelling = Seq::from_vec(encode(alloc, command)?);
     let none = SharedMap::new();
-    let kept = none.with(alloc, key, Kept { spelling, answer })?;
+    let kept = none.with(alloc, key, Kept::new(alloc, command, answer)?)?;
     Ok(kept)
 }

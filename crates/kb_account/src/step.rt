@@ -16,7 +16,7 @@ ghost use Rattle.kb_account.specs.Private.Begins.{begun_of, own_refusal, IsBegun
 ghost use Rattle.kb_account.specs.Private.KeptAnswers.{kept_answer, kept_refusal, kept_after};
 
 use crate::{Begun, Book, Kept, Next, State, World, invoices_after, key_of, with_own_line};
-use kb_base::{NoMemory, Seq};
+use kb_base::NoMemory;
 use kb_billing::SubscriptionCharges;
 use kb_book::{Answer, Refusal, Unprepared};
 use kb_codec::{Command, encode};
@@ -237,7 +237,7 @@ impl State {
         let Some(key) = key_of(command) else {
             return self.kept.share();
         };
-        let spelling = Seq::from_vec(encode(alloc, command)?);
-        self.kept.with(alloc, key, Kept { spelling, answer })
+        let kept = Kept::new(alloc, command, answer)?;
+        self.kept.with(alloc, key, kept)
     }
 }
