@@ -1,3 +1,4 @@
+pub mod Issues
 pub mod Prepares
 pub mod Private
 pub mod Sums

@@ -64,7 +64,7 @@ impl State {
 }
 
 /// The items that bring subscriptions up to what is due. Steps are counted in a ledger of its own.
-fn issue_all(
+pub(crate) fn issue_all(
     alloc: Global,
     facts: &Facts,
     billed: &Option<Day>,
@@ -133,7 +133,7 @@ fn with_start(
 }
 
 /// The same charges.
-fn shared(
+pub(crate) fn shared(
     alloc: Global,
     charges: &[SubscriptionCharges],
 ) -> Result<Vec<SubscriptionCharges>, NoMemory>

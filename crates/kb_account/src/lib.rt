@@ -17,13 +17,14 @@ mod kept;
 mod key;
 mod next;
 mod query;
+mod settling;
 mod state;
 mod step;
 mod view;
 mod world;
 
 use begun::{Begun, Move, later, move_on};
-use billing::with_own_line;
+use billing::{issue_all, shared, with_own_line};
 pub use book::Book;
 pub use due::auto_key;
 use invoicing::invoices_after;

@@ -11,13 +11,14 @@ ghost use Rattle.kb_book.specs.Rows.{IsUnprepared, first_refusal};
 ghost use Rattle.kb_book.specs.Edits.{begun};
 ghost use Rattle.kb_book.specs.Steps as told;
 ghost use Rattle.kb_laws.specs.SoundBooks.{IsBook};
+ghost use Rattle.kb_account.specs.Issues.{IsIssueOf};
 ghost use Rattle.kb_account.specs.Private.States.{value_of};
 ghost use Rattle.kb_account.specs.Private.Begins.{begun_of, own_refusal, IsBegun};
 ghost use Rattle.kb_account.specs.Private.KeptAnswers.{kept_answer, kept_refusal, kept_after};
 
 use crate::{Begun, Book, Kept, Next, State, World, invoices_after, key_of, with_own_line};
 use kb_base::NoMemory;
-use kb_billing::SubscriptionCharges;
+use kb_billing::{Issue, SubscriptionCharges};
 use kb_book::{Answer, Refusal, Unprepared};
 use kb_codec::{Command, encode};
 use kb_credit::{Invoices, Line, total_of};
@@ -114,7 +115,7 @@ impl State {
     }
 
     /// Whether there is room for one command more.
-    fn has_room(&self) -> bool
+    pub fn has_room(&self) -> bool
         ensures { IsTrue result ↔ ((self.now.commands < 2 ^ 32 - 1)
             × (length self.now.invoices.items < 2 ^ 60)) }
     {
@@ -141,6 +142,30 @@ impl State {
             first_day charged_days ≡ (next.answer, next.book)) }
     {
         let issue = self.issue(alloc, world, &edit)?;
+        self.issued(alloc, world, today, command, edit, issue)
+    }
+
+    /// The book with a command's own edit and the items that are due with it, and the command's answer.
+    pub fn issued(
+        &self,
+        alloc: Global,
+        world: &World,
+        today: Day,
+        command: &Command,
+        edit: Begun,
+        issue: Issue,
+    ) -> Result<Next, NoMemory>
+        requires sound { IsBook (value_of self.now) }
+        requires begun { begun_of (value_of self.now) edit
+            ≡ begun world.now (value_of self.now) today command.now }
+        requires edit { IsBegun (value_of self.now) edit }
+        requires accepted { own_refusal world.now (value_of self.now) today command.now ≡ None }
+        requires few { self.now.commands < 2 ^ 32 - 1 }
+        requires room { length self.now.invoices.items < 2 ^ 60 }
+        requires issue { IsIssueOf world.now (begun_of (value_of self.now) edit) issue }
+        ensures { IfOk result (λ next. told.accepted_over world.now (value_of self.now) today command.now
+            first_day charged_days ≡ (next.answer, next.book)) }
+    {
         let charges = issue.charges;
         let lines = with_own_line(issue.lines, command)?;
         let told = lines.as_slice();

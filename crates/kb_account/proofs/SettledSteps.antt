@@ -1,0 +1,52 @@
+-- What is due with a settlement is what is due of the book as it stands, and a settlement has no key.
+use Rattle.std.proofs.Common.{◌≡◌, ℕ, None, Ok, refl, sym, ap, ap₂, ◌∙◌}
+use Rattle.kb_days.specs.Calendar.{first_day, charged_days}
+use Rattle.kb_codec.specs.declared.command.Command.{Command}
+use Rattle.kb_billing.specs.declared.issue.Issue.{Issue}
+use Rattle.kb_book.specs.declared.unprepared.Unprepared.{Unprepared}
+use Rattle.kb_book.specs.Worlds.{WorldValue}
+use Rattle.kb_book.specs.Books.{BookValue}
+use Rattle.kb_book.specs.Edits.{begun}
+use Rattle.kb_book.specs.Rows.{first_refusal, IsUnprepared}
+use Rattle.kb_book.specs.Steps.{Outcome, issue_over, rows_of, step, accepted_over}
+use Rattle.kb_account.specs.Issues.{IsIssueOf, IsSettlement}
+use Rattle.kb_account.specs.Prepares.{refusal_by}
+use Rattle.kb_account.specs.Private.Begins.{own_refusal}
+use Rattle.kb_account.proofs.PreparedSteps.{step-accepted, step-refused}
+
+module _ (world : WorldValue) (book : BookValue) (today : ℕ) (command : Command)
+    (settles : IsSettlement command) where
+  -- a settlement leaves what billing looks at
+  pub issue-same : issue_over world (begun world book today command) first_day charged_days
+      ≡ issue_over world book first_day charged_days
+  issue-same = rw settles.1 refl
+
+  -- so the items that are due with it are those of the book
+  pub issue-settled : (edited : BookValue) (issue shared : Issue) → edited ≡ begun world book today command
+      → shared.lines.items ≡ issue.lines.items → shared.charges.items ≡ issue.charges.items
+      → IsIssueOf world book issue → IsIssueOf world edited shared
+  issue-settled edited issue shared edit lines charges is = record {
+    over =
+        ap₂ (λ l c. record { lines = l; charges = c }) lines charges ∙ is.over ∙ sym issue-same
+        ∙ sym (ap (λ (b : BookValue). issue_over world b first_day charged_days) edit);
+    few = rw lines is.few;
+    plain = rw lines is.plain;
+  }
+
+  -- no limit of commands refuses it
+  pub rows-settled : first_refusal (rows_of world book today command) ≡ own_refusal world book today command
+  rows-settled = rw settles.1 refl
+
+  -- a settlement that isn't refused is accepted
+  pub step-settled : (outcome : Outcome) → first_refusal (rows_of world book today command) ≡ None
+      → accepted_over world book today command first_day charged_days ≡ outcome
+      → step world book today command ≡ Ok outcome
+  step-settled outcome accepted is =
+      step-accepted world book today command outcome (rw settles.1 refl) (rw settles.1 refl) accepted is
+
+  -- and it is refused by its first refusal
+  pub step-unsettled : (fault : Unprepared) → IsUnprepared
+      (first_refusal (rows_of world book today command)) fault
+      → IsUnprepared (refusal_by (step world book today command)) fault
+  step-unsettled fault is =
+      step-refused world book today command fault (rw settles.1 refl) (rw settles.1 refl) is
