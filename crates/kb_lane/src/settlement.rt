@@ -1,15 +1,17 @@
 //! Settlements of payments, made ready before the gateway is asked.
 ghost use Rattle.std.specs.Prelude.{◌≡◌, ◌<◌, ℕ, List, length, slice_index_or, IfSome, IfOk, OnOk};
 ghost use Rattle.kb_machine.specs.Machines.{MachineValue};
+ghost use Rattle.kb_machine.specs.Plans.{IsIssueIn};
 ghost use Rattle.kb_lane.specs.Draining.{settled_by};
 ghost use Rattle.kb_lane.specs.Private.Settlements.{IsReady, AreReady, AddsReady, IsChosen, told_place};
 
 use kb_base::{Failed, NoMemory};
+use kb_billing::Issue;
 use kb_codec::{Command, Settle};
 use kb_days::{Day, Name};
 use kb_gateway::Told;
 use kb_log::payload_of;
-use kb_machine::{Change, Machine, Planned};
+use kb_machine::{Change, Machine};
 use kb_payment::Status;
 use std::alloc::Global;
 
@@ -39,6 +41,9 @@ impl Settlements {
     ) -> Result<Settlements, NoMemory>
         ensures { IfOk result (AreReady machine.now today account key) }
     {
+        let Some(issue) = machine.issue(alloc, &account) else {
+            return Err(NoMemory);
+        };
         let mut each = Vec::with_capacity(alloc, 4)?;
         add(
             &mut each,
@@ -47,6 +52,7 @@ impl Settlements {
             today,
             account,
             key,
+            &issue,
             Status::Success,
         )?;
         add(
@@ -56,6 +62,7 @@ impl Settlements {
             today,
             account,
             key,
+            &issue,
             Status::Pending,
         )?;
         add(
@@ -65,6 +72,7 @@ impl Settlements {
             today,
             account,
             key,
+            &issue,
             Status::PaymentFailure,
         )?;
         add(
@@ -74,6 +82,7 @@ impl Settlements {
             today,
             account,
             key,
+            &issue,
             Status::PluginFailure,
         )?;
         Ok(Settlements { each })
@@ -125,11 +134,13 @@ fn add(
     today: Day,
     account: Name,
     key: Name,
+    issue: &Issue,
     status: Status,
 ) -> Result<(), NoMemory>
+    requires issue { IsIssueIn machine.now account issue.now }
     ensures { OnOk result (AddsReady machine.now today account key status each.old.items each.new.items) }
 {
-    match ready_settlement(machine, alloc, today, account, key, status) {
+    match ready_settlement(machine, alloc, today, account, key, issue, status) {
         Some(settlement) => Ok(each.push(settlement)?),
         None => Err(NoMemory),
     }
@@ -142,8 +153,10 @@ fn ready_settlement(
     today: Day,
     account: Name,
     key: Name,
+    issue: &Issue,
     status: Status,
 ) -> Option<Settlement>
+    requires issue { IsIssueIn machine.now account issue.now }
     ensures { IfSome result (IsReady machine.now today account key status) }
 {
     let command = Command::Settle(Settle {
@@ -154,12 +167,10 @@ fn ready_settlement(
     let Ok(bytes) = payload_of(alloc, today, &command) else {
         return None;
     };
-    match machine.prepare(alloc, today, &command) {
-        Ok(Planned::Change(change)) => Some(Settlement {
-            command,
-            change,
-            bytes,
-        }),
-        _ => None,
-    }
+    let change = machine.prepare_settlement(alloc, today, &command, account, issue)?;
+    Some(Settlement {
+        command,
+        change,
+        bytes,
+    })
 }

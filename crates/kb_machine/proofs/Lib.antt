@@ -4,4 +4,5 @@ mod NamedBooks
 mod NoStates
 mod Openings
 pub mod Replays
+mod Settled
 mod TextRefusals

@@ -1,14 +1,15 @@
 -- What is planned for a command.
-use Rattle.std.specs.Prelude.{ℕ, ◌≡◌, List, IsSome, Option, Some, None}
+use Rattle.std.specs.Prelude.{ℕ, ◌≡◌, List, IsSome, IfSome, None}
 use Rattle.std.specs.FinMap.{entries}
-use Rattle.kb_sharing.specs.Keys.{by_words}
+use Rattle.kb_billing.specs.declared.issue.Issue.{Issue}
+use Rattle.kb_book.specs.Books.{BookValue}
+use Rattle.kb_account.specs.Issues.{IsIssueOf}
 use Rattle.kb_reply.specs.declared.reply.LaneReply.{LaneReply}
 use Rattle.kb_reply.specs.declared.reply.LaneReply.TheVariants as replies
 use Rattle.kb_machine.specs.Judged.{Judged, New, Again}
 use Rattle.kb_machine.specs.Machines.{MachineValue, with_texts, with_book, book_of}
 use Rattle.kb_machine.specs.declared.change.Change.{Change}
 use Rattle.kb_machine.specs.declared.change.Change.TheVariants as changes
-use Rattle.kb_machine.specs.declared.change.Opened.{Opened}
 use Rattle.kb_machine.specs.declared.change.Planned.{Planned}
 use Rattle.kb_machine.specs.declared.change.Planned.TheVariants as plans
 
@@ -42,6 +43,11 @@ abbrev pub IsThere : MachineValue → Change → Type 0
 IsThere machine (changes.Catalog catalog keys number) = Unit {0}
 IsThere machine (changes.Overdue config keys number) = Unit {0}
 IsThere machine (changes.Book account next) = IsSome (book_of machine account)
+
+-- what is issued for an account that is there, as it stands
+abbrev pub IsIssueIn : MachineValue → List ℕ → Issue → Type 0
+IsIssueIn machine account issue =
+    IfSome (book_of machine account) (λ (book : BookValue). IsIssueOf machine.texts.world book issue)
 
 -- so it is of a plan; an account that is opened isn't there
 abbrev pub Fits : MachineValue → Planned → Type 0

@@ -1,16 +1,18 @@
 //! The machine, and what it plans for a command.
-ghost use Rattle.std.specs.Prelude.{◌≡◌, true, IfOk, IfErr, OnOk, OnErr, [], None, Some};
+ghost use Rattle.std.specs.Prelude.{◌≡◌, true, IfOk, IfErr, IfSome, OnOk, OnErr, [], None, Some};
 ghost use Rattle.kb_book.specs.Books.{BookValue};
 ghost use Rattle.kb_book.specs.Rows.{IsUnprepared};
 ghost use Rattle.kb_reply.specs.declared.reply.LaneReply.TheVariants as replies;
-ghost use Rattle.kb_machine.specs.Judged.{refusal_in, lifted};
+ghost use Rattle.kb_account.specs.Issues.{IsSettlement};
+ghost use Rattle.kb_machine.specs.Judged.{New, refusal_in, lifted};
 ghost use Rattle.kb_machine.specs.Machines.{MachineValue, no_machine, judged, account_judged};
 ghost use Rattle.kb_machine.specs.Machines.{account_of, book_of, with_book, book_judged, is_text};
-ghost use Rattle.kb_machine.specs.Plans.{plan_judged, changed, change_reply, IsThere, Fits};
+ghost use Rattle.kb_machine.specs.Plans.{plan_judged, changed, change_reply, IsThere, IsIssueIn, Fits};
 
 use crate::{Books, Change, KeptText, Opened, Planned, account_of};
 use kb_account::{Book, Prepared, World};
 use kb_base::NoMemory;
+use kb_billing::Issue;
 use kb_book::{Refusal, Unprepared};
 use kb_catalog::Catalog;
 use kb_codec::Command;
@@ -82,6 +84,41 @@ impl Machine {
         match account_of(command) {
             Some(account) => self.plan_account(alloc, today, command, account),
             None => self.plan_text(alloc, today, command),
+        }
+    }
+
+    /// The items that bring an account up to what is due, as it stands. None comes if it isn't there, or
+    /// memory runs out.
+    pub fn issue(&self, alloc: Global, account: &Name) -> Option<Issue>
+        ensures { IfSome result (IsIssueIn self.now account.now) }
+    {
+        match self.books.get(account)?.issue(alloc, &self.world) {
+            Ok(issue) => Some(issue),
+            Err(_) => None,
+        }
+    }
+
+    /// What a settlement changes, as `prepare` plans it; the items that are due on its account are at hand.
+    /// None comes if it is refused, or memory runs out.
+    pub fn prepare_settlement(
+        &self,
+        alloc: Global,
+        today: Day,
+        command: &Command,
+        account: Name,
+        issue: &Issue,
+    ) -> Option<Change>
+        requires settlement { IsSettlement command.now }
+        requires named { account ≡ account_of command.now }
+        requires issue { IsIssueIn self.now account issue.now }
+        ensures judged { IfSome result (λ change. judged self.now today command.now
+            ≡ New (change_reply change) (changed self.now change)) }
+        ensures there { IfSome result (IsThere self.now) }
+    {
+        let book = self.books.get(&account)?;
+        match book.prepare_settlement(alloc, &self.world, today, command, issue) {
+            Ok(next) => Some(Change::Book { account, next }),
+            Err(_) => None,
         }
     }
 

@@ -12,7 +12,8 @@ invariant_of-self c =
     let change = c.in-Ok-Change.change in
     let after = changed before.machine change in
     let new = rw c.in-Ok-Change.field-0-is at c.in-Ok-Change.ensures.judged in
-    let grown = grows before.machine after before.history c.args.today c.args.command.now (change_reply change)
+    let grown = grows before.machine after before.history c.args.today c.args.command.now
+    (change_reply change)
     c.args.bytes.now before.place c.in-Some.next c.self.invariant new
     c.requires.payload c.in-Some.ensures.1 in
     rw c.commit.ensures.machine (rw c.note.ensures grown)

@@ -1,0 +1,15 @@
+-- The account is there, and its book takes the settlement.
+use Rattle.std.proofs.Common.{rules, ◌≡◌, Some, Ok}
+use Rattle.kb_book.specs.Steps.{step}
+use Rattle.kb_machine.specs.Machines.{book_of}
+use Rattle.kb_machine.proofs.Settled.{judged-settled}
+use Rattle.kb_machine.proofs.machine.Machine.prepare_settlement.Goals as goal
+
+pub returns-in-Ok-clause-judged : goal.returns-in-Ok-clause-judged
+returns-in-Ok-clause-judged c =
+    let book = c.in_ok-book.book.now in
+    let there : book_of c.args.self.now c.args.account ≡ Some book = search rules in
+    let stepped : step c.args.self.now.texts.world book c.args.today c.args.command.now
+    ≡ Ok (c.in-Ok.next.answer, c.in-Ok.next.book) = search rules in
+    judged-settled c.args.self.now c.args.today c.args.command.now c.args.account book c.in-Ok.next.book
+    c.in-Ok.next.answer c.requires.settlement c.requires.named there stepped
