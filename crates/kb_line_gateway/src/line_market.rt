@@ -54,6 +54,7 @@ impl<R: Net<Listener = TcpListener, Stream = TcpStream>> Market for LineMarket<'
     /// Connects to the peer with this name, `host:port`: anew for each lane, whatever its number. It fails
     /// where the name is none or isn't known, and where nobody answers there.
     fn gateway(&mut self, name: &str, lane: u32) -> Result<LineGateway<TcpLink>, Failed>
+        ensures served { IfOk result (λ _. ⊤) }
         ensures cause { HasCause self.old self.new result }
         ensures calm { OnOk result (self.new ≡ self.old) }
         ensures rising { self.old ≤ self.new }

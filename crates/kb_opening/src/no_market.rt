@@ -1,5 +1,5 @@
 //! A market for runs that ask for no money.
-ghost use Rattle.std.specs.Prelude.{◌≡◌, ⊤, None, Ok, IsOk};
+ghost use Rattle.std.specs.Prelude.{◌≡◌, ⊤, None, Ok, IfOk, IsOk};
 ghost use Rattle.kb_gateway.specs.declared.told.Told.TheVariants as told;
 ghost use Rattle.kb_gateway.specs.declared.told.Seen.TheVariants as seen;
 
@@ -42,7 +42,8 @@ impl Market for NoMarket {
     ghost serves = { λ gateway name lane. ⊤ };
 
     fn gateway(&mut self, name: &str, lane: u32) -> Result<NoGateway, Failed>
-        ensures { IsOk result }
+        ensures made { IsOk result }
+        ensures served { IfOk result (λ _. ⊤) }
     {
         Ok(NoGateway)
     }
