@@ -26,8 +26,7 @@ returns-in-Err-add-clause-refused g c count =
 pub returns-in-Ok-add-clause-served : goal.returns-in-Ok-add-clause-served
 returns-in-Ok-add-clause-served g c =
     one_more_served (λ made place. g.M.Market.serves made c.args.gateway.now place) c.args.lanes.now.items
-    c.add.new.lanes.items c.in-Ok.lane 0 c.add.result c.add.ensures.added
-    (ap (λ items. length items) c.requires.none)
-    c.in-Ok.ensures.served
+    c.add.new.lanes.items c.in-Ok.lane 0 c.in-Ok-add.ensures.added
+    (ap (λ items. length items) c.requires.none) c.in-Ok.ensures.served
     (none_served (λ made place. g.M.Market.serves made c.args.gateway.now place) c.args.lanes.now.items
     c.requires.none)

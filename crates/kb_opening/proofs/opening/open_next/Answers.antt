@@ -1,6 +1,6 @@
 use Rattle.kb_opening.specs.Folders.{told_of, words_of}
 use Rattle.kb_opening.proofs.LeftIn.{added_in, unadded_in}
-use Rattle.kb_opening.proofs.Served.{one_more_served}
+use Rattle.kb_opening.proofs.Served.{one_more_served_in}
 use Rattle.kb_opening.proofs.opening.open_next.Goals as goal
 
 pub returns-in-Ok-clause-added : goal.returns-in-Ok-clause-added
@@ -25,6 +25,6 @@ returns-in-Ok-clause-refused g c =
 
 pub returns-in-Ok-clause-served : goal.returns-in-Ok-clause-served
 returns-in-Ok-clause-served g c =
-    one_more_served (λ made place. g.M.Market.serves made c.args.gateway.now place) c.args.lanes.now.items
+    one_more_served_in (λ made place. g.M.Market.serves made c.args.gateway.now place) c.args.lanes.now.items
     c.add.new.lanes.items c.in-Ok.lane c.args.number c.add.result c.add.ensures.added c.requires.next
     c.in-Ok.ensures.served
