@@ -1,4 +1,5 @@
 mod Applied
+mod ByGateway
 mod Causes
 mod Founded
 mod Reported

@@ -1,0 +1,32 @@
+-- `apply`, by the gateway that is named.
+use Rattle.std.specs.Prelude.{⊤}
+use Rattle.std.proofs.Common.{◌≡◌, ℕ, List, Option, None, Some, Result, refl, sym, subst}
+use Rattle.kb_lines.specs.Reading.{Known}
+use Rattle.kb_apply.specs.LaneRuns.{Outside}
+use Rattle.kb_opening.specs.Folders.{VaultTold, DiskWords}
+use Rattle.kb_endings.specs.declared.stop.Stop.{Stop}
+use Rattle.kb_billd.specs.Runs.{AppliesFolder}
+use Rattle.kb_billd.specs.TopCall.{AppliesBy, around_of}
+
+module _ {D G N C : Type 0} (disks : DiskWords D) (outside : Outside D G C) (alone : Outside D N C)
+    (serves : G → List ℕ → ℕ → Type 0) (folder : List ℕ) (clock : C) (left left_after written written_after : Known)
+    (old new : VaultTold) (market market_after : ℕ) (outcome : Result (Unit {0}) Stop) (named : Option (List ℕ)) where
+  -- with those of a market
+  pub by_market : (name : List ℕ) → named ≡ Some name
+      → AppliesFolder disks outside (λ gateway place. serves gateway name place) folder clock old new market
+      market_after left left_after written written_after outcome
+      → AppliesBy disks outside alone serves folder clock (around_of left written old market)
+      (around_of left_after written_after new market_after) outcome named
+  by_market name is applies = subst (AppliesBy disks outside alone serves folder clock
+      (around_of left written old market) (around_of left_after written_after new market_after) outcome) (sym is)
+      applies
+
+  -- or with none
+  pub by_none : named ≡ None → market_after ≡ market
+      → AppliesFolder disks alone (λ gateway place. ⊤) folder clock old new 0 0 left left_after written
+      written_after outcome
+      → AppliesBy disks outside alone serves folder clock (around_of left written old market)
+      (around_of left_after written_after new market_after) outcome named
+  by_none is same applies = subst (AppliesBy disks outside alone serves folder clock
+      (around_of left written old market) (around_of left_after written_after new market_after) outcome) (sym is)
+      (same, applies)
