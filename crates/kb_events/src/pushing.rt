@@ -27,8 +27,8 @@ pub(crate) fn push_run(
     push_piece(found, Piece { from, to, cell })
 }
 
-/// Makes the last piece longer, up to a day, where it ends on another day and has a cell; says whether it
-/// does.
+/// Makes the last piece longer, up to the day `to`, if it ends on the day `from` and has the same cell; says
+/// whether it does.
 fn lengthen(found: &mut Vec<Piece>, from: Reach, to: Reach, cell: &Cell) -> bool
     ensures longer { result ≡ true → map stretch_of found.new.items ≡ push_run same_cell
         (map stretch_of found.old.items) from to (Some cell.now) }

@@ -4,7 +4,7 @@ use Rattle.std.proofs.Common.{refl, sym, ◌∙◌, ap, subst, arith, append_ass
 use Rattle.std.proofs.lemmas.List.{take_at, drop_at, drop-drop}
 use Rattle.kb_journal.specs.Format.{framed, blocks, IsSized, AreSized}
 use Rattle.kb_journal.specs.Reading.{told_size}
-use Rattle.kb_journal.specs.Records.{first_told, behind_first, told}
+use Rattle.kb_journal.specs.Private.Records.{first_told, behind_first, told}
 use Rattle.kb_journal.specs.Private.Parts.{AreThere, AreRead, IsEnd}
 use Rattle.kb_journal.proofs.Exact.{told_framed}
 

@@ -3,7 +3,7 @@ ghost use Rattle.std.specs.Prelude.{◌≡◌, ◌≤◌, ◌+◌, length, drop,
 ghost use Rattle.std.specs.Iterator.{YieldsFirstRef, item_count};
 ghost use Rattle.std.specs.Int.{w32, to_be_bytes};
 ghost use Rattle.kb_journal.specs.Reading.{told_size};
-ghost use Rattle.kb_journal.specs.Records.{first_told, behind_first, told};
+ghost use Rattle.kb_journal.specs.Private.Records.{first_told, behind_first, told};
 ghost use Rattle.kb_journal.specs.Private.Parts.{AreThere};
 
 use std::marker::Model;
@@ -18,7 +18,7 @@ pub struct Records {
 
 impl Model for Records {
     ghost use Rattle.std.specs.Prelude.{List, ℕ, ◌≤◌, length, drop};
-    ghost use Rattle.kb_journal.specs.Records.{told};
+    ghost use Rattle.kb_journal.specs.Private.Records.{told};
     ghost use Rattle.kb_journal.specs.Private.Parts.{AreThere};
 
     ghost Value = { List (List ℕ) };
@@ -66,7 +66,7 @@ pub struct RecordsLeft<'a> {
 
 impl<'a> Model for RecordsLeft<'a> {
     ghost use Rattle.std.specs.Prelude.{List, ℕ};
-    ghost use Rattle.kb_journal.specs.Records.{told};
+    ghost use Rattle.kb_journal.specs.Private.Records.{told};
     ghost use Rattle.kb_journal.specs.Private.Parts.{AreThere};
 
     ghost Value = { List (List ℕ) };

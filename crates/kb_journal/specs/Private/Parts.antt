@@ -6,7 +6,7 @@ use Rattle.kb_journal.specs.declared.fault.LoadFault.{LoadFault}
 use Rattle.kb_journal.specs.declared.fault.LoadFault.TheVariants.{NotAJournal, DiskFault, NoMemory}
 use Rattle.kb_journal.specs.Format.{blocks, AreSized}
 use Rattle.kb_journal.specs.Reading.{told_size, IsCutShort}
-use Rattle.kb_journal.specs.Records.{behind_first}
+use Rattle.kb_journal.specs.Private.Records.{behind_first}
 
 -- These records were read from bytes that begin at a gate; the next gate stands at this place.
 pub record AreRead (records : List (List ℕ)) (place : ℕ) (bytes : List ℕ) : Type 0 where

@@ -1,5 +1,5 @@
 use Rattle.std.proofs.Common.{◌≡◌, ◌-◌, [], length, ap, sym, ◌∙◌, List, ℕ, arith, subst}
-use Rattle.kb_journal.specs.Records.{told}
+use Rattle.kb_journal.specs.Private.Records.{told}
 use Rattle.kb_journal.specs.Private.Parts.{AreThere}
 use Rattle.kb_journal.proofs.Told.{told_none, told_some, first_there, others_there}
 use Rattle.kb_journal.proofs.records.RecordsLeftIterator.next.Goals as goal
