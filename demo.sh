@@ -107,7 +107,7 @@ print_journals "$work/second"
 print_cost
 
 echo
-echo "4. The same lines again. Each key has acted: a command gets the answer that it got, and no byte is added."
+echo "4. The same lines again. Each key has acted: a command gets its answer, and no byte is added."
 # shellcheck disable=SC2046
 "$billd" $(apply_words "$work/second") <"$lines" >"$work/again"
 grep -c '"command":' "$work/again" | sed 's/$/ answers to commands/; s/^/    /'

@@ -1,13 +1,13 @@
 #!/bin/sh
-# Prints how long commands on an account take, and how much memory an account does. It tests nothing. The aims stand
-# beside the figures.
+# Prints how long commands on an account take, and how much memory an account does. It tests nothing. The
+# aims stand beside the figures.
 #
-# The account bills on the 1st, and its subscriptions are on a plan of 1000 a month since 2020-01-01. `bill` is that of
-# the next month once 24 or 120 months are billed, and once 1,200 commands more of charges, payments and settlements
-# were accepted; and that of 128 subscriptions. `change` moves a subscription to another plan, 24 months ago. Each is
-# prepared and dropped, over and over. The time is taken inside the program, as LLVM builds it, and is the best of five
-# runs of many calls. Then 2,000 accounts are made, each with 24 bills and their automatic payments: the commands a
-# second, and what the process holds of each.
+# The account bills on the 1st, and its subscriptions are on a plan of 1000 a month since 2020-01-01. `bill`
+# is that of the next month once 24 or 120 months are billed, and once 1,200 commands more of charges,
+# payments and settlements were accepted; and that of 128 subscriptions. `change` moves a subscription to
+# another plan, 24 months ago. Each is prepared and dropped, over and over. The time is taken inside the
+# program, as LLVM builds it, and is the best of five runs of many calls. Then 2,000 accounts are made, each
+# with 24 bills and their automatic payments: the commands a second, and what the process holds of each.
 #
 # The program and the libraries below it are built in a new folder, which takes 6 GB while it is there.
 set -eu
@@ -15,9 +15,9 @@ cd "$(dirname "$0")/.."
 . bench/repository.sh
 
 program=account_times
-libraries='kb_base kb_days kb_money kb_sharing kb_catalog kb_overdue kb_align kb_timeline kb_blocking kb_credit
-    kb_payment kb_catalog_text kb_codec kb_due kb_events kb_tree kb_terms kb_book kb_billing kb_edits kb_laws kb_account
-    kb_samples'
+libraries='kb_base kb_days kb_money kb_sharing kb_catalog kb_overdue kb_align kb_timeline kb_blocking
+    kb_credit kb_payment kb_catalog_text kb_codec kb_due kb_events kb_tree kb_terms kb_book
+    kb_billing kb_edits kb_laws kb_account kb_samples'
 libraries=$(echo $libraries)
 
 write_program() {
@@ -202,8 +202,8 @@ fn open_of(alloc: Global, book: &Book) -> Option<Vec<Name>> {
     book.payments().open_attempts(alloc).ok()
 }
 
-/// An account with subscriptions that are billed for some months, after some rounds of a charge, a payment and its
-/// settlement.
+/// An account with subscriptions that are billed for some months, after some rounds of a charge, a payment
+/// and its settlement.
 fn account(
     alloc: Global,
     world: &World,

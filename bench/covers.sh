@@ -175,4 +175,7 @@ take_times
 best_times | awk -F , '
     BEGIN { aim["120 unchanged"] = "2 us"; aim["500 repaired"] = "50 us" }
     { nanos[$1] = $2; printf "%-26s %9.2f us%s\n", $1, $2 / 1e3, $1 in aim ? "   aim: under " aim[$1] : "" }
-    END { printf "twice the stretches %23.2f times   aim: at most 2.2\n", nanos["240 unchanged"] / nanos["120 unchanged"] }'
+    END {
+        times = nanos["240 unchanged"] / nanos["120 unchanged"]
+        printf "twice the stretches %23.2f times   aim: at most 2.2\n", times
+    }'

@@ -3,9 +3,9 @@
     python3 bench/gateways.py [--slow]
 
 Each gateway is asked for one payment by `crates/billd/out/billd apply` and fails it in its own way. The run
-has to end with status 0 and leave the payment open. A second run, in which the gateway answers look-ups, has to
-settle it; and over both runs the order is asked for once. --slow adds a gateway that is silent for over 30
-seconds.
+has to end with status 0 and leave the payment open. A second run, in which the gateway answers look-ups, has
+to settle it; and over both runs the order is asked for once. --slow adds a gateway that is silent for over
+30 seconds.
 """
 import json
 import multiprocessing

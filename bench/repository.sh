@@ -41,6 +41,9 @@ best_times() {
     awk -F , '
         !($1 in best) { order[++count] = $1; best[$1] = $3 / $2 }
         $3 / $2 < best[$1] { best[$1] = $3 / $2 }
-        END { for (place = 1; place <= count; place++) printf "%s,%.3f\n", order[place], best[order[place]] }' \
+        END {
+            for (place = 1; place <= count; place++)
+                printf "%s,%.3f\n", order[place], best[order[place]]
+        }' \
         "$work/times"
 }
