@@ -1,7 +1,8 @@
 #!/bin/sh
 # Prints how long shared lists and maps take, at three sizes: a push and its drop, a `get` and a `replace`
-# of a list; a `with` of a new key and its drop, and a `get` of a map by numbers and of one by names. It
-# tests nothing. The aims stand beside the figures.
+# of a list; a `with` of a new key and its drop, and a `get` of a map by numbers and of one by names. Then it
+# prints how much memory the process holds of each member of a list of 100,000 pairs of numbers, 16 bytes each,
+# and of each entry of maps of 100,000. It tests nothing. The aims stand beside the figures.
 #
 # Members and keys are asked for and changed all over the list or the map, in an order that jumps. The time
 # is taken inside the program, as LLVM builds it, and is the best of five runs of many calls. Pushes begin
@@ -18,13 +19,14 @@ libraries='kb_base jiff_core kb_days kb_sharing'
 write_program() {
     cat <<'END'
 //! Times shared lists and maps. A line that is printed has what is timed, how many calls were made, and the
-//! nanoseconds that they took.
+//! nanoseconds that they took; or how much memory the process held at most, in KB.
 #![tactic(auto)]
 
 use kb_base::NoMemory;
 use kb_days::Name;
 use kb_sharing::{Key, SharedList, SharedMap};
 use std::alloc::{AllocGlobal, Global};
+use std::fs;
 use std::io;
 use std::time::{Clock, Instant};
 
@@ -36,6 +38,9 @@ const CALLS: u64 = 200_000;
 const STEP: u64 = 0x9E37_79B9_7F4A_7C15;
 
 const SIZES: [u64; 3] = [100, 10_000, 100_000];
+
+/// How many members and entries the list and each map have that are held in memory.
+const HELD: u64 = 100_000;
 
 fn list_of(alloc: Global, size: u64) -> Result<SharedList<u64>, NoMemory> {
     let mut list = SharedList::new();
@@ -191,7 +196,35 @@ fn time_map<K: Numbered, R: Clock + Print + AllocGlobal>(
     println!(rt; "map of {size} {kind}: of which making the key,{CALLS},{nanos},{made}")
 }
 
+fn pairs(alloc: Global) -> Result<SharedList<(u64, u64)>, NoMemory> {
+    let mut list = SharedList::new();
+    for number in 0..HELD {
+        list = list.push(alloc, (number, number))?;
+    }
+    Ok(list)
+}
+
+/// Makes a list of pairs, a map of numbers and one of names, and holds them.
+fn hold(rt: &HostRuntime) -> io::Result<()> {
+    peak(rt, "at first")?;
+    let pairs = pairs(rt.alloc());
+    peak(rt, "with pairs")?;
+    let numbers = map_of::<u64>(rt.alloc(), HELD);
+    peak(rt, "with numbers")?;
+    let names = map_of::<Name>(rt.alloc(), HELD);
+    peak(rt, "with names")?;
+    if let Ok(pairs) = &pairs
+        && let Ok(numbers) = &numbers
+        && let Ok(names) = &names
+    {
+        println!(rt; "held,{},{},{}", pairs.len(), numbers.len(), names.len())?;
+    }
+    Ok(())
+}
+
 fn main(rt: HostRuntime) -> io::Result<()> {
+    // The memory comes first: later on, what was let go is taken again, and the peak doesn't rise.
+    hold(&rt)?;
     for _ in 0..RUNS {
         for size in SIZES {
             time_list(&rt, size)?;
@@ -202,6 +235,7 @@ fn main(rt: HostRuntime) -> io::Result<()> {
     Ok(())
 }
 END
+    write_peak
 }
 
 make_repository
@@ -215,4 +249,16 @@ best_times | awk -F , '
         if (name ~ /of 100000 .*get/) return "   aim 1,500 ns"
         return ""
     }
+    /^peak|^held/ { next }
     { printf "%-52s%9.1f ns%s\n", $1, $2, aim($1) }'
+awk -F , '
+    /^peak/ { split($2, number, " "); peak[$1] = number[1] }
+    /^held/ { pairs = $2; numbers = $3; names = $4 }
+    function each(name, before, after, held, aim) {
+        printf "%-52s%9.1f bytes   aim %d bytes\n", name, (peak[after] - peak[before]) * 1024 / held, aim
+    }
+    END {
+        each("list of 100000 pairs: a pair", "peak at first", "peak with pairs", pairs, 30)
+        each("map of 100000 numbers: an entry", "peak with pairs", "peak with numbers", numbers, 80)
+        each("map of 100000 names: an entry", "peak with numbers", "peak with names", names, 150)
+    }' "$work/times"

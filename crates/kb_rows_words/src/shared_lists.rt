@@ -7,7 +7,8 @@ use kb_sharing::SharedList;
 use std::alloc::Global;
 use std::test::Fail;
 
-/// How many members lists are grown to: the trees of 1,000 members have 511, 255, 127, 63, 31, 7, 3 and 3.
+/// How many members lists are grown to: 1,000 members lie in 62 chunks of 16, which lie in two trees of 31
+/// chunks, and in a tail of 8.
 const COUNT: u64 = 1_000;
 
 /// The list of the numbers below `COUNT`.

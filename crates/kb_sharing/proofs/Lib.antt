@@ -1,9 +1,11 @@
 pub mod ApartKeys
+pub mod ChunkPlaces
+pub mod ChunkedLists
 pub mod EntrySums
 pub mod MemberSums
 pub mod NextEntries
-pub mod NodeMaps
 pub mod Places
 pub mod SplitEntries
+pub mod TreeMaps
 pub mod TreeSizes
 pub mod Turns

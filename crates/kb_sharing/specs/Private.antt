@@ -1,3 +1,4 @@
 -- What only private contracts and proofs cite.
+pub mod Chunks
 pub mod Nodes
 pub mod Trees

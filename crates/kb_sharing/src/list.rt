@@ -1,33 +1,41 @@
 //! Lists that grow at their end and share what stays.
 ghost use Rattle.std.specs.Prelude.{◌≡◌, ◌<◌, ◌++◌, ◌∷◌, [], length, set, slice_get, option_copied, IfOk};
 
+mod chunk;
 mod spine;
+mod tail;
 mod tree;
 
+use chunk::{CHUNK, Chunk};
 use kb_base::NoMemory;
 use spine::Spine;
 use std::alloc::Global;
 use std::marker::Model;
+use tail::Tail;
 
 /// A list that grows at its end and shares what stays.
 ///
-/// Its members lie in trees, and so a push takes the same time at any size, and `get` and `replace` a time
-/// that grows with the logarithm of the size.
+/// Its members lie in chunks of `CHUNK`, which lie in trees, and the last ones in a tail. So a push copies
+/// fewer members than a chunk has and takes the same time at any size, and `get` and `replace` take a time that
+/// grows with the logarithm of the size.
 #[derive(Drop)]
 pub struct SharedList<T> {
-    spine: Spine<T>,
+    chunks: Spine<Chunk<T>>,
+    tail: Tail<T>,
     len: u64,
 }
 
 impl<T> Model for SharedList<T> {
-    ghost use Rattle.std.specs.Prelude.{◌≡◌, List, length};
+    ghost use Rattle.std.specs.Prelude.{List, ◌++◌};
+    ghost use Rattle.kb_sharing.specs.Private.Chunks.{chunk_members, chunk_size, IsChunked};
     ghost use Rattle.kb_sharing.specs.Private.Trees.{spine_members, IsSpine};
 
     ghost Value = { List T };
 
-    ghost view = { λ list. spine_members list.spine };
+    ghost view = { λ list. chunk_members (spine_members list.chunks) ++ list.tail };
 
-    ghost invariant = { λ list. (list.len ≡ length (spine_members list.spine)) × IsSpine list.spine };
+    ghost invariant = { λ list. IsSpine list.chunks
+        × IsChunked chunk_size (spine_members list.chunks) list.tail list.len };
 }
 
 impl<T> SharedList<T> {
@@ -36,7 +44,8 @@ impl<T> SharedList<T> {
         ensures { result ≡ [] }
     {
         SharedList {
-            spine: Spine::Empty,
+            chunks: Spine::Empty,
+            tail: Tail::new(),
             len: 0,
         }
     }
@@ -52,30 +61,54 @@ impl<T> SharedList<T> {
     pub fn get(&self, place: u64) -> Option<&T>
         ensures { option_copied result ≡ slice_get self.now place }
     {
-        self.spine.at(place)
+        let full = self.len - self.len % CHUNK;
+        if place < full {
+            self.chunks.at(place / CHUNK)?.at(place % CHUNK)
+        } else {
+            self.tail.at(place - full)
+        }
     }
 
     /// The list with another member behind its last one.
     pub fn push(&self, alloc: Global, member: T) -> Result<SharedList<T>, NoMemory>
     where
-        T: Drop,
+        T: Copy,
         ensures { IfOk result (λ longer. longer ≡ self.now ++ member ∷ []) }
     {
         let len = self.len.checked_add(1).ok_or(NoMemory)?;
-        let spine = self.spine.push(alloc, self.len, member)?;
-        Ok(SharedList { spine, len })
+        let last = self.tail.push(alloc, member)?;
+        if last.is_full() {
+            let chunks = self.chunks.push(alloc, self.len / CHUNK, last)?;
+            let tail = Tail::new();
+            return Ok(SharedList { chunks, tail, len });
+        }
+        let tail = Tail::of(alloc, last)?;
+        let chunks = self.chunks.share()?;
+        Ok(SharedList { chunks, tail, len })
     }
 
     /// The list with another member at a place, from 0.
     pub fn replace(&self, alloc: Global, place: u64, member: T) -> Result<SharedList<T>, NoMemory>
     where
-        T: Drop,
+        T: Copy,
         requires there { place < length self.now }
         ensures { IfOk result (λ changed. changed ≡ set self.now place member) }
     {
-        let spine = self.spine.replace(alloc, place, member)?;
+        let full = self.len - self.len % CHUNK;
         let len = self.len;
-        Ok(SharedList { spine, len })
+        if place < full {
+            let Some(chunk) = self.chunks.at(place / CHUNK) else {
+                unreachable!()
+            };
+            let changed = chunk.replace(alloc, place % CHUNK, member)?;
+            let chunks = self.chunks.replace(alloc, place / CHUNK, changed)?;
+            let tail = self.tail.share()?;
+            Ok(SharedList { chunks, tail, len })
+        } else {
+            let tail = self.tail.replace(alloc, place - full, member)?;
+            let chunks = self.chunks.share()?;
+            Ok(SharedList { chunks, tail, len })
+        }
     }
 
     /// The same list. It shares all members.
@@ -84,8 +117,9 @@ impl<T> SharedList<T> {
         T: Drop,
         ensures { IfOk result (λ same. same ≡ self.now) }
     {
-        let spine = self.spine.share()?;
+        let chunks = self.chunks.share()?;
+        let tail = self.tail.share()?;
         let len = self.len;
-        Ok(SharedList { spine, len })
+        Ok(SharedList { chunks, tail, len })
     }
 }

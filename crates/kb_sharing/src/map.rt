@@ -3,17 +3,17 @@ ghost use Rattle.std.specs.Prelude.{◌≡◌, IfOk, option_copied, option_map, 
 ghost use Rattle.std.specs.FinMap as map;
 ghost use Rattle.kb_sharing.specs.Keys.{first_behind};
 
-mod node;
-mod root;
+mod growth;
 #[cfg(test)]
 mod tests;
+mod tree;
 
 use crate::Key;
+use growth::{len_with, tree_with};
 use kb_base::NoMemory;
-use root::{Root, after_in, entries_of, find_in, first_in, len_with, tree_with};
 use std::alloc::Global;
 use std::marker::Model;
-use std::sync::Arc;
+use tree::Tree;
 
 /// A map by key that grows and shares what stays.
 ///
@@ -21,7 +21,7 @@ use std::sync::Arc;
 /// words of its keys.
 #[derive(Drop)]
 pub struct SharedMap<K: Key, V> {
-    root: Root<K, V>,
+    root: Tree<K, V>,
     len: u64,
 }
 
@@ -35,12 +35,12 @@ impl<K: Key, V> Model for SharedMap<K, V> {
 
     ghost coded = { map.code (coded_list coded_ℕ) V.code };
 
-    ghost use Rattle.kb_sharing.specs.Private.Nodes.{root_entries, IsSorted};
+    ghost use Rattle.kb_sharing.specs.Private.Nodes.{tree_entries, IsSorted};
 
-    ghost view = { λ kept. map.from_sorted (root_entries K.word kept.root) };
+    ghost view = { λ kept. map.from_sorted (tree_entries K.word kept.root) };
 
-    ghost invariant = { λ kept. IsSorted (root_entries K.word kept.root)
-        × (kept.len ≡ length (root_entries K.word kept.root)) };
+    ghost invariant = { λ kept. IsSorted (tree_entries K.word kept.root)
+        × (kept.len ≡ length (tree_entries K.word kept.root)) };
 }
 
 impl<K: Key, V> SharedMap<K, V> {
@@ -48,7 +48,10 @@ impl<K: Key, V> SharedMap<K, V> {
     pub fn new() -> SharedMap<K, V>
         ensures { result ≡ map.empty }
     {
-        SharedMap { root: None, len: 0 }
+        SharedMap {
+            root: Tree::Empty,
+            len: 0,
+        }
     }
 
     /// How many entries there are.
@@ -62,14 +65,14 @@ impl<K: Key, V> SharedMap<K, V> {
     pub fn get(&self, key: &K) -> Option<&V>
         ensures { option_copied result ≡ map.get self.now (K.word key.now) }
     {
-        find_in(&self.root, key)
+        self.root.find(key)
     }
 
     /// The first entry.
     pub fn first(&self) -> Option<(&K, &V)>
         ensures { option_map (λ p. (K.word p.0.now, p.1.now)) result ≡ slice_get (map.entries self.now) 0 }
     {
-        first_in(&self.root)
+        self.root.first()
     }
 
     /// The first entry behind a key, whether or not the key is there: so one goes through all entries without
@@ -78,7 +81,7 @@ impl<K: Key, V> SharedMap<K, V> {
         ensures { option_map (λ p. (K.word p.0.now, p.1.now)) result
             ≡ first_behind (K.word key.now) (map.entries self.now) }
     {
-        after_in(&self.root, key)
+        self.root.after(key)
     }
 
     /// All entries, in the order of their keys.
@@ -86,7 +89,7 @@ impl<K: Key, V> SharedMap<K, V> {
         ensures { IfOk result (λ all. each (λ p. (K.word p.0.now, p.1.now)) all.items
             ≡ map.entries self.now) }
     {
-        let all = entries_of(&self.root, alloc)?;
+        let all = self.root.entries(alloc)?;
         Ok(all)
     }
 
@@ -98,8 +101,7 @@ impl<K: Key, V> SharedMap<K, V> {
         ensures { IfOk result (λ kept. kept ≡ map.insert self.now (K.word key) value) }
     {
         let len = len_with(&self.root, self.len, &key)?;
-        let tree = tree_with(&self.root, alloc, key, value)?;
-        let root = Some(tree);
+        let root = tree_with(&self.root, alloc, key, value)?;
         Ok(SharedMap { root, len })
     }
 
@@ -110,10 +112,7 @@ impl<K: Key, V> SharedMap<K, V> {
         V: Drop,
         ensures { IfOk result (λ same. same ≡ self.now) }
     {
-        let root = match &self.root {
-            None => None,
-            Some(root) => Some(Arc::try_clone(root)?),
-        };
+        let root = self.root.share()?;
         let len = self.len;
         Ok(SharedMap { root, len })
     }

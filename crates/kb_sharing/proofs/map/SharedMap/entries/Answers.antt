@@ -1,7 +1,7 @@
 -- The map is that of the tree's entries.
 use Rattle.std.proofs.Common.{ap, sym, ◌∙◌}
 use Rattle.std.specs.FinMap as map
-use Rattle.kb_sharing.proofs.NodeMaps.{entries-sorted}
+use Rattle.kb_sharing.proofs.TreeMaps.{entries-sorted}
 use Rattle.kb_sharing.proofs.map.SharedMap.entries.Goals as goal
 
 pub returns : goal.returns

@@ -1,6 +1,6 @@
 -- No entries are in order, and their map is empty.
 use Rattle.std.proofs.Common.{refl}
-use Rattle.kb_sharing.proofs.NodeMaps.{sorted-none, empty-sorted}
+use Rattle.kb_sharing.proofs.TreeMaps.{sorted-none, empty-sorted}
 use Rattle.kb_sharing.proofs.map.SharedMap.new.Goals as goal
 
 pub invariant_of-result : goal.invariant_of-result
