@@ -1,5 +1,5 @@
 //! The settlement of an attempt.
-ghost use Rattle.std.specs.Prelude.{◌≡◌, None, option_copied, OnOk, IfOk, IfErr, IfSome};
+ghost use Rattle.std.specs.Prelude.{◌≡◌, None, OnOk, IfOk, IfErr, IfSome};
 ghost use Rattle.kb_payment.specs.PaymentSums.{attempt_of, Moves};
 ghost use Rattle.kb_payment.specs.PaymentEdits as told;
 ghost use Rattle.kb_book.specs.Rows.{first_refusal, IsUnprepared};
@@ -37,8 +37,8 @@ pub fn settle(
 }
 
 /// Whether an attempt is open, and has another status.
-fn may_settle(attempt: Option<&Attempt>, status: Status) -> bool
-    ensures { result ≡ may_settle (option_copied attempt.entry) status }
+fn may_settle(attempt: Option<Attempt>, status: Status) -> bool
+    ensures { result ≡ may_settle attempt status }
 {
     match attempt {
         None => false,

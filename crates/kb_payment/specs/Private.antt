@@ -1,3 +1,4 @@
 pub mod KeptSums
 pub mod GivenBack
 pub mod LentEntries
+pub mod KeptAttempts

@@ -7,6 +7,7 @@
 
 mod attempt;
 mod fault;
+mod kept_attempt;
 mod on_invoice;
 mod payments;
 mod threads;

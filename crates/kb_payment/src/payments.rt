@@ -2,7 +2,6 @@
 ghost use Rattle.std.specs.Prelude.{◌≡◌, ◌≤ℤ◌, ℕ, pos, neg_ℤ, int_lt, None, Err, IfOk, IfErr, IfSome, All};
 ghost use Rattle.std.specs.Prelude.{List};
 ghost use Rattle.std.specs.List.{AllPairs};
-ghost use Rattle.std.specs.Prelude.{option_copied};
 ghost use Rattle.kb_payment.specs.PaymentSums.{attempt_of, open_purchases, has_automatic_since, open_keys};
 ghost use Rattle.kb_payment.specs.PaymentSums.{IsOpenKey};
 ghost use Rattle.kb_payment.specs.PaymentSums.{paid_on, StayFinal, Moves};
@@ -16,6 +15,7 @@ mod kept;
 mod purchase;
 mod settlement;
 
+use crate::kept_attempt::KeptAttempt;
 use crate::on_invoice::OnInvoice;
 use crate::{Attempt, Kind, PayFault, Status};
 use kb_base::NoMemory;
@@ -32,7 +32,7 @@ pub const MAX_PURCHASE: u64 = 1_000_000_000_000;
 /// The payments of an account: one attempt for each payment key. An edited value shares what stays as it was.
 #[derive(Drop)]
 pub struct Payments {
-    attempts: SharedMap<Name, Attempt>,
+    attempts: SharedMap<Name, KeptAttempt>,
     /// What is given back of each purchase, or may yet be.
     taken: SharedMap<Name, u64>,
     /// What is kept of the purchases on each invoice, by its number.
@@ -67,11 +67,14 @@ impl Payments {
 
     /// The attempt of a payment key. It takes no memory.
     #[tactic(auto, using(crate::proofs::MapEntries::found_entry))]
-    pub fn attempt(&self, key: Name) -> Option<&Attempt>
-        ensures attempt { option_copied result ≡ attempt_of self.now key }
+    pub fn attempt(&self, key: Name) -> Option<Attempt>
+        ensures attempt { result ≡ attempt_of self.now key }
         ensures sound { ArePayments self.now }
     {
-        self.attempts.get(&key)
+        match self.attempts.get(&key) {
+            None => None,
+            Some(kept) => Some(kept.attempt()),
+        }
     }
 
     /// Whether a purchase on the invoice of a number is open. It takes no memory.
@@ -215,19 +218,24 @@ impl Payments {
             (λ attempt. Moves self.now settled_by.0 attempt.invoice settled_by.1)) }
         ensures lasting { IfOk result (λ settled_by. StayFinal self.now settled_by.0) }
     {
-        let attempt = self.attempt_to_settle(key)?;
+        let Some(attempt) = self.attempt(key) else {
+            return Err(PayFault::NoPayment);
+        };
+        if !attempt.status.is_open() {
+            return Err(PayFault::PaymentState);
+        }
         let payments = self.with_status(alloc, key, &attempt, status)?;
         Ok((payments, moved_by(&attempt, status)))
     }
 }
 
 /// The keys of the open attempts among some.
-fn open_among(alloc: Global, entries: &[(&Name, &Attempt)]) -> Result<Vec<Name>, NoMemory>
+fn open_among(alloc: Global, entries: &[(&Name, &KeptAttempt)]) -> Result<Vec<Name>, NoMemory>
     ensures { IfOk result (λ keys. keys.items ≡ open_among entries.now) }
 {
     let mut keys = Vec::new(alloc);
     for entry in entries {
-        if entry.1.status.is_open() {
+        if entry.1.attempt().status.is_open() {
             keys.push(*entry.0)?;
         }
     }

@@ -181,7 +181,7 @@ impl State {
     {
         match self.payments.attempt(key) {
             None => 0,
-            Some(attempt) => invoice_by(attempt),
+            Some(attempt) => invoice_by(&attempt),
         }
     }
 }

@@ -25,7 +25,7 @@ impl State {
     {
         match self.payments.attempt(payment) {
             None => None,
-            Some(attempt) => Some(attempt_view(payment, attempt)),
+            Some(attempt) => Some(attempt_view(payment, &attempt)),
         }
     }
 }

@@ -5,6 +5,7 @@ ghost use Rattle.kb_payment.specs.PaymentEdits.{give_back_fault};
 ghost use Rattle.kb_payment.specs.Private.GivenBack.{IsCovered, IsGiveBack};
 
 use super::Payments;
+use crate::kept_attempt::with_kept;
 use crate::{Attempt, PayFault};
 use kb_base::NoMemory;
 use kb_days::Name;
@@ -34,7 +35,7 @@ impl Payments {
         if purchase.amount - self.taken_of(of) < amount {
             return Err(PayFault::AmountTooLarge);
         }
-        Ok(*purchase)
+        Ok(purchase)
     }
 
     /// The payments with a refund or a chargeback more, of the purchase of a key.
@@ -50,7 +51,7 @@ impl Payments {
     {
         let taken = self.taken_of(of) + attempt.amount;
         Ok(Payments {
-            attempts: self.attempts.with(alloc, key, attempt)?,
+            attempts: with_kept(alloc, &self.attempts, key, attempt)?,
             taken: self.taken.with(alloc, of, taken)?,
             invoices: self.invoices.share()?,
         })

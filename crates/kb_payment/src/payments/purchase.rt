@@ -6,6 +6,7 @@ ghost use Rattle.kb_payment.specs.PaymentEdits.{max_purchase};
 ghost use Rattle.kb_payment.specs.Private.KeptSums.{latest};
 
 use super::{MAX_PURCHASE, Payments};
+use crate::kept_attempt::with_kept;
 use crate::on_invoice::OnInvoice;
 use crate::{Attempt, Kind, PayFault, Status};
 use kb_base::NoMemory;
@@ -69,7 +70,7 @@ impl Payments {
             automatic: latest(auto, day, self.on_invoice(invoice).automatic),
         };
         Ok(Payments {
-            attempts: self.attempts.with(alloc, key, attempt)?,
+            attempts: with_kept(alloc, &self.attempts, key, attempt)?,
             taken: self.taken.share()?,
             invoices: self.invoices.with(alloc, invoice, kept)?,
         })

@@ -1,33 +1,17 @@
 //! Settlements.
-ghost use Rattle.std.specs.Prelude.{◌≡◌, ◌||◌, pos, true, false, None, Some, IfOk, IfErr, if◌then◌else◌};
+ghost use Rattle.std.specs.Prelude.{◌≡◌, ◌||◌, pos, true, false, None, Some, IfOk, if◌then◌else◌};
 ghost use Rattle.kb_payment.specs.Attempts.{is_open, is_success, signed, with_status};
 ghost use Rattle.kb_payment.specs.PaymentSums.{attempt_of, with_attempt};
-ghost use Rattle.kb_payment.specs.PaymentEdits.{settle_fault};
-ghost use Rattle.kb_payment.specs.SoundPayments.{ArePayments};
 
 use super::Payments;
+use crate::kept_attempt::with_kept;
 use crate::on_invoice::OnInvoice;
-use crate::{Attempt, Kind, PayFault, Status};
+use crate::{Attempt, Kind, Status};
 use kb_base::NoMemory;
 use kb_days::Name;
 use std::alloc::Global;
 
 impl Payments {
-    /// The attempt of a key, if it is open.
-    pub(super) fn attempt_to_settle(&self, key: Name) -> Result<Attempt, PayFault>
-        ensures there { IfOk result (λ attempt. attempt_of self.now key ≡ Some attempt) }
-        ensures opened { IfOk result (λ attempt. is_open attempt.status ≡ true) }
-        ensures allowed { IfOk result (λ attempt. settle_fault self.now key ≡ None) }
-        ensures sound { IfOk result (λ attempt. ArePayments self.now) }
-        ensures fault { IfErr result (λ fault. settle_fault self.now key ≡ Some fault) }
-    {
-        match self.attempt(key) {
-            None => Err(PayFault::NoPayment),
-            Some(attempt) if attempt.status.is_open() => Ok(*attempt),
-            Some(_) => Err(PayFault::PaymentState),
-        }
-    }
-
     /// The payments with another status of an open attempt.
     pub(super) fn with_status(
         &self,
@@ -68,7 +52,7 @@ impl Payments {
         };
         let settled = Attempt { status, ..*attempt };
         Ok(Payments {
-            attempts: self.attempts.with(alloc, key, settled)?,
+            attempts: with_kept(alloc, &self.attempts, key, settled)?,
             taken: self.taken.share()?,
             invoices: self.invoices.with(alloc, attempt.invoice, kept)?,
         })
@@ -92,7 +76,7 @@ impl Payments {
     {
         let settled = Attempt { status, ..*attempt };
         Ok(Payments {
-            attempts: self.attempts.with(alloc, key, settled)?,
+            attempts: with_kept(alloc, &self.attempts, key, settled)?,
             taken: self.taken.share()?,
             invoices: self.invoices.share()?,
         })
@@ -118,7 +102,7 @@ impl Payments {
         let settled = Attempt { status, ..*attempt };
         let taken = self.taken_of(of) - attempt.amount;
         Ok(Payments {
-            attempts: self.attempts.with(alloc, key, settled)?,
+            attempts: with_kept(alloc, &self.attempts, key, settled)?,
             taken: self.taken.with(alloc, of, taken)?,
             invoices: self.invoices.share()?,
         })

@@ -1,4 +1,4 @@
-use Rattle.std.proofs.Common.{sym, subst, IfSome, ℤ}
+use Rattle.std.proofs.Common.{sym, subst, ◌∙◌, IfSome, ℤ}
 use Rattle.std.proofs.lemmas.Int.{to_z-of_z}
 use mir.Syntax.{w128}
 use Rattle.kb_payment.specs.declared.attempt.Attempt.{Attempt}
@@ -11,7 +11,7 @@ returns-clause-moved c =
     subst (λ (amount : ℤ). IfSome (attempt_of c.args.self.now c.args.key)
     (λ (attempt : Attempt). Moves c.args.self.now c.in_ok-payments.payments attempt.invoice amount))
     (sym (to_z-of_z w128 c.moved_by.result (record { sfits = c.moved_by.type_inv })))
-    (settlement_moved c.args.self.now c.in_ok-payments.payments c.args.key c.in_ok-attempt.attempt
+    (settlement_moved c.args.self.now c.in_ok-payments.payments c.args.key c.in-Some.attempt
     c.args.status
-    c.moved_by.result c.in_ok-payments.ensures c.in_ok-attempt.ensures.sound c.in_ok-attempt.ensures.there
-    c.in_ok-attempt.ensures.opened c.moved_by.ensures)
+    c.moved_by.result c.in_ok-payments.ensures c.in-Some.ensures.sound (sym c.in-Some.ensures.attempt)
+    (sym c.is_open.ensures ∙ c.if-not-is_open.false) c.moved_by.ensures)

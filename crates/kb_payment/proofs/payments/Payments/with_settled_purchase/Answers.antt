@@ -5,14 +5,14 @@ use Rattle.kb_payment.proofs.payments.Payments.with_settled_purchase.Goals as go
 pub invariant_of-result : goal.invariant_of-result
 invariant_of-result c =
     AreMaps-settled_purchase c.args.self.now c.self.inside.attempts c.self.inside.taken c.self.inside.invoices
-    c.in_ok-with.field-0 c.in_ok-share.field-0 c.in_ok-with-2.field-0 c.self.view_is c.self.invariant
+    c.in_ok-with_kept.field-0 c.in_ok-share.field-0 c.in_ok-with.field-0 c.self.view_is c.self.invariant
     c.args.key
     c.args.attempt.now c.args.status
     (record { has_open = c.is_open.result; automatic = c.on_invoice.result.automatic }) c.requires.there
     c.requires.opened c.requires.purchase c.is_open.ensures
-    c.on_invoice.ensures.automatic c.in_ok-with.ensures c.in_ok-share.ensures c.in_ok-with-2.ensures
+    c.on_invoice.ensures.automatic c.in_ok-with_kept.ensures c.in_ok-share.ensures c.in_ok-with.ensures
 
 pub returns : goal.returns
 returns c =
-    seen-with c.args.self.now c.self.inside.attempts c.in_ok-with.field-0 c.args.key
-    (with_status c.args.attempt.now c.args.status) c.self.view_is c.in_ok-with.ensures
+    seen-with c.args.self.now c.self.inside.attempts c.in_ok-with_kept.field-0 c.args.key
+    (with_status c.args.attempt.now c.args.status) c.self.view_is c.in_ok-with_kept.ensures
