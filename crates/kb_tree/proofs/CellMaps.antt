@@ -1,11 +1,12 @@
 -- The cells of bills by their numbers, once more bills are added.
 use Rattle.std.proofs.Common.{◌≡◌, ℕ, ◌+◌, ◌<◌, Bool, true, false, ◌==◌, cond, if◌then◌else◌, List, []}
 use Rattle.std.proofs.Common.{◌∷◌, ◌++◌, ◌&&◌, length, map, Option, Some, IsSome, All, refl, sym, ap, ◌∙◌}
-use Rattle.std.proofs.Common.{subst}
+use Rattle.std.proofs.Common.{subst, drop}
 use Rattle.std.proofs.Common.{arith, inl, inr, append-nil}
 use Rattle.std.proofs.lemmas.Bool.{eqb-true, eq-eqb, ne_eqb, cond-true, cond-false, cases_Bool}
 use Rattle.std.proofs.lemmas.Cmp.{nat_list_cmp_total}
-use Rattle.std.proofs.lemmas.List.{append_assoc}
+use Rattle.std.proofs.lemmas.List.{append_assoc, drop_more}
+use Rattle.std.specs.List.{slice_index_or}
 use Rattle.std.proofs.lemmas.List.Elements.{All-nil, All-cons, All-append, All-weaker}
 use Rattle.std.proofs.lemmas.Map.Text.{is_eq-slice_cmp}
 use Rattle.std.specs.FinMap as map_of
@@ -18,6 +19,7 @@ use Rattle.kb_tree.specs.Repairs.{bill_of}
 use Rattle.kb_tree.specs.Covers.{IsBelow}
 use Rattle.kb_tree.specs.Private.LeftCharges.{billed_from}
 use Rattle.kb_tree.specs.Private.AfterCovers.{with_cells}
+use Rattle.kb_tree.specs.Private.RisingBills.{AreBelow}
 use Rattle.kb_tree.proofs.AddedNumbers.{cell_at-bill, IsBelow-higher}
 
 -- the cell at a number
@@ -120,3 +122,21 @@ with_cells-items items first (bill ∷ later) cells below are number =
     number
     ∙ ap (λ items. cell_at items number)
     (append_assoc items ((first, bill_of bill) ∷ []) (numbered (first + 1) (map bill_of later)))
+
+-- the next number is above that of a bill with the number above all others
+pub next-above : (cells : SharedEntries Cell) (number : ℕ) (cell : Cell) → AreBelow cells number
+    → AreBelow (map_of.insert cells (number ∷ []) cell) (number + 1)
+next-above cells number cell below other there =
+    let bills : List (Stretch Cell) = record { from = 0; to = 0; value = cell } ∷ [] in
+    let under : other < number + length bills = with_cells-above cells number bills below other there in
+    omega (arith, under)
+
+-- the cells with that of the next bill, and those of the bills behind it
+pub next-cells : (cells all : SharedEntries Cell) (number place : ℕ) (bills : List (Stretch Cell))
+    (bill : Stretch Cell) (cell : Cell) → place < length bills → bill ≡ slice_index_or bills place bill
+    → cell ≡ bill.value → with_cells cells (billed_from number (drop place bills)) ≡ all
+    → with_cells (map_of.insert cells (number ∷ []) cell)
+    (billed_from (number + 1) (drop (place + 1) bills)) ≡ all
+next-cells cells all number place bills bill cell inside at same is = rw same (
+    sym (ap (λ left. with_cells cells (billed_from number left))
+    (drop_more bills place bill inside ∙ ap (λ first. first ∷ drop (place + 1) bills) (sym at))) ∙ is)

@@ -18,3 +18,4 @@ pub mod AfterDays
 pub mod AfterCover
 pub mod MadeRight
 pub mod NoCover
+pub mod RisingBills

@@ -3,3 +3,4 @@ pub mod LeftCharges
 pub mod Rests
 pub mod Walks
 pub mod AfterCovers
+pub mod RisingBills

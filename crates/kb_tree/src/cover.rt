@@ -11,9 +11,12 @@ ghost use Rattle.kb_tree.specs.Repairs.{new_items, IsSettled};
 ghost use Rattle.kb_tree.specs.Amounts as amounts;
 ghost use Rattle.kb_tree.specs.Covers.{no_cover, charges, cell_in, due_in, charged_cell, ArePieces, IsAbove};
 ghost use Rattle.kb_tree.specs.Covers.{IsCover, IsCoverOf, IsBelow, AreInOrder};
+ghost use Rattle.kb_tree.specs.Private.LeftCharges.{billed_from};
+ghost use Rattle.kb_tree.specs.Private.RisingBills.{AreBelow};
 ghost use Rattle.kb_tree.specs.Private.Walks.{AreChanges};
 ghost use Rattle.kb_tree.specs.Private.AfterCovers.{live_in, with_cells, IsCoverAfter};
 
+use crate::cells::Cells;
 use crate::changes::{Changes, changes_of};
 use crate::charging::Charged;
 use crate::days::Days;
@@ -24,7 +27,6 @@ use crate::{ItemNo, NewItem, Steps};
 use kb_base::{NoMemory, Seq};
 use kb_days::Reach;
 use kb_due::{Cell, Piece};
-use kb_sharing::SharedMap;
 use std::alloc::Global;
 use std::marker::Model;
 use std::sync::Arc;
@@ -34,7 +36,7 @@ use std::sync::ledger::Ledger;
 #[derive(Drop)]
 pub struct Cover {
     live: Option<Arc<Seq<Days<Charged>>>>,
-    cells: SharedMap<ItemNo, Cell>,
+    cells: Cells,
 }
 
 impl Model for Cover {
@@ -65,7 +67,7 @@ impl Cover {
     {
         Cover {
             live: None,
-            cells: SharedMap::new(),
+            cells: Cells::new(),
         }
     }
 
@@ -96,10 +98,7 @@ impl Cover {
     pub fn cell(&self, item: ItemNo) -> Option<Cell>
         ensures { result ≡ cell_in self.now item }
     {
-        match self.cells.get(&item) {
-            None => None,
-            Some(cell) => Some(*cell),
-        }
+        self.cells.get(item)
     }
 
     /// The cover that charges each day by the due cell, as pieces tell it, and the items that make it so,
@@ -161,7 +160,7 @@ impl Cover {
         let bills = billed_from(alloc, number, &changes.bills)?;
         let live = live_after(alloc, self.stretches(), &changes.repairs, &bills)?;
         let live = shared(alloc, live)?;
-        let cells = with_cells(alloc, &self.cells, &bills)?;
+        let cells = with_cells(alloc, &self.cells, number, &changes.bills)?;
         Ok((Cover { live, cells }, changes))
     }
 
@@ -178,28 +177,33 @@ impl Cover {
     }
 }
 
-/// Stretches, in a list that covers may share.
+/// Stretches, in a list that covers may share, with no more room than it takes.
 fn shared(
     alloc: Global,
-    live: Vec<Days<Charged>>,
+    mut live: Vec<Days<Charged>>,
 ) -> Result<Option<Arc<Seq<Days<Charged>>>>, NoMemory>
     ensures { IfOk result (λ shared. live_in shared ≡ live.items) }
 {
+    live.shrink_to_fit();
     Ok(Some(Arc::new(alloc, Seq::from_vec(live))?))
 }
 
-/// Cells, with those of bills by their numbers.
+/// Cells, with those of bills whose numbers go on from one that is above all others.
 fn with_cells(
     alloc: Global,
-    cells: &SharedMap<ItemNo, Cell>,
-    bills: &[Days<Charged>],
-) -> Result<SharedMap<ItemNo, Cell>, NoMemory>
-    ensures { IfOk result (λ more. more ≡ with_cells cells.now bills.now) }
+    cells: &Cells,
+    first: ItemNo,
+    bills: &[Days<Cell>],
+) -> Result<Cells, NoMemory>
+    requires above { AreBelow cells.now first }
+    requires room { first + length bills.now < 2 ^ 64 }
+    ensures { IfOk result (λ more. more ≡ with_cells cells.now (billed_from first bills.now)) }
 {
     let mut more = cells.share()?;
+    let mut number = first;
     for bill in bills {
-        let _plan = bill.value.cell.plan;
-        more = more.with(alloc, bill.value.number, bill.value.cell)?;
+        more = more.with(alloc, number, bill.value)?;
+        number += 1;
     }
     Ok(more)
 }

@@ -6,6 +6,7 @@
 //! each subscription, one for fees and one for recurring charges.
 #![tactic(auto)]
 
+mod cells;
 mod changes;
 mod charging;
 mod cover;

@@ -78,23 +78,24 @@ live_after-requires-clause-bills c =
 
 -- what is made is the cover made right
 made : (cover : CoverValue) (due : ℕ → _) (first len : ℕ) (repairs : List (Stretch ℕ))
-    (bills : List (Stretch Cell)) (own taken-now : _) (before : List (Stretch Charge))
+    (bills own entered : List (Stretch Cell)) (before : List (Stretch Charge))
     (taken : List (Stretch ℕ))
     (added billed live told : List (Stretch Charge)) (cells kept : SharedEntries Cell)
     → AreChanges (charges cover) due end_of_days repairs bills → before ≡ cover.live → kept ≡ cover.cells
     → len ≡ length repairs → taken ≡ repairs → own ≡ bills → billed ≡ billed_from (first + len) own
     → added ≡ billed → live ≡ told
     → told ≡ runs same_charge (charge_on before taken added) first_day charged_days
-    → taken-now ≡ billed → cells ≡ with_cells kept taken-now
+    → entered ≡ bills → cells ≡ with_cells kept (billed_from (first + len) entered)
     → ◌≡◌ {A = CoverValue} (record { live = live; cells = cells }) (cover_after cover due first)
-made cover due first len repairs bills own taken-now before taken added billed live told cells
+made cover due first len repairs bills own entered before taken added billed live told cells
     kept are stretches
-    entries length-is taken-is own-is billed-is added-is live-is told-is now-is cells-is =
+    entries length-is taken-is own-is billed-is added-is live-is told-is entered-is cells-is =
     after-made cover due first (first + len) repairs bills billed live cells are
     (ap (λ (len : ℕ). first + len) length-is)
     (rw (← own-is) billed-is)
     (rw (← stretches, ← taken-is, ← added-is) (live-is ∙ told-is))
-    (rw (← entries, ← now-is) cells-is)
+    (rw (← entries) (cells-is ∙ ap (with_cells kept) (ap (billed_from (first + len)) (entered-is ∙ sym own-is)
+    ∙ sym billed-is)))
 
 pub invariant_of-result : goal.invariant_of-result
 invariant_of-result c =
