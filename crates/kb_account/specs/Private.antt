@@ -2,3 +2,4 @@ pub mod States
 pub mod Begins
 pub mod Moves
 pub mod KeptAnswers
+pub mod KeptSums

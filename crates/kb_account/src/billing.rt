@@ -139,7 +139,7 @@ pub(crate) fn shared(
 ) -> Result<Vec<SubscriptionCharges>, NoMemory>
     ensures { IfOk result (λ all. all.items ≡ charges.now) }
 {
-    let mut all = Vec::new(alloc);
+    let mut all = Vec::with_capacity(alloc, charges.len())?;
     for one in charges {
         all.push(one.share()?)?;
     }

@@ -2,6 +2,7 @@
 ghost use Rattle.std.specs.Prelude.{◌≡◌, IfOk};
 ghost use Rattle.kb_codec.specs.Commands.{spelling};
 
+use crate::kept_answer::KeptAnswer;
 use kb_base::{NoMemory, Seq};
 use kb_book::Answer;
 use kb_codec::{Command, encode};
@@ -12,7 +13,7 @@ use std::marker::Model;
 #[derive(Drop)]
 pub(crate) struct Kept {
     pub spelling: Seq<u8>,
-    pub answer: Answer,
+    pub answer: KeptAnswer,
 }
 
 impl Model for Kept {
@@ -31,6 +32,7 @@ impl Kept {
         let mut bytes = encode(alloc, command)?;
         bytes.shrink_to_fit();
         let spelling = Seq::from_vec(bytes);
+        let answer = KeptAnswer::new(alloc, answer)?;
         Ok(Kept { spelling, answer })
     }
 }

@@ -14,6 +14,7 @@ mod due;
 mod edits;
 mod invoicing;
 mod kept;
+mod kept_answer;
 mod key;
 mod next;
 mod query;

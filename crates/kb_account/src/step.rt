@@ -55,7 +55,7 @@ impl State {
         };
         let spelling = encode(alloc, command)?;
         if kept.spelling.as_slice() == spelling.as_slice() {
-            Ok(Some(kept.answer))
+            Ok(Some(kept.answer.answer()))
         } else {
             Err(Unprepared::Refused(Refusal::KeyReused))
         }

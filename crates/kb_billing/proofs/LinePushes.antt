@@ -1,5 +1,5 @@
 -- One line more of those of new items.
-use Rattle.std.proofs.Common.{◌≡◌, ℕ, ◌+◌, ◌<◌, List, [], ◌∷◌, ◌++◌, length, drop, get_or, sym, ap, ap₂, ◌∙◌}
+use Rattle.std.proofs.Common.{◌≡◌, ℕ, ◌+◌, ◌<◌, List, [], ◌∷◌, ◌++◌, length, drop, get_or, sym, ap, ◌∙◌}
 use Rattle.std.proofs.Common.{Bool, Option, append_assoc}
 use Rattle.kb_credit.specs.declared.line.Line.{Line}
 use Rattle.kb_credit.proofs.PassSteps.{drop_one}

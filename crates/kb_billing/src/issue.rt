@@ -45,7 +45,7 @@ pub fn issue_due<L: Ledger>(
     // The check has to see that places are u32.
     let _count = facts.timeline.len();
     let mut lines = Vec::new(alloc);
-    let mut all = Vec::new(alloc);
+    let mut all = Vec::with_capacity(alloc, charges.len())?;
     let mut sub = 0;
     for items in charges {
         let number = first + lines.len() as u64;
