@@ -352,17 +352,8 @@ fn first_of(month: u32) -> Option<Day> {
 fn digit(number: u32) -> u8 {
     b'0' + (number % 10) as u8
 }
-
-fn peak(rt: &HostRuntime, when: &str) -> io::Result<()> {
-    let text = fs::read_to_string(rt, "/proc/self/status")?;
-    for line in text.as_str().lines() {
-        if let Some(rest) = line.strip_prefix("VmHWM:") {
-            println!(rt; "peak {when},{}", rest.trim())?;
-        }
-    }
-    Ok(())
-}
 END
+    write_peak
 }
 
 make_repository

@@ -160,18 +160,8 @@ fn memory(rt: &HostRuntime, name: &str, record: &[u8], count: u32) -> io::Result
     println!(rt; "records {name},{}", records.len())?;
     peak(rt, name)
 }
-
-/// Prints the most memory that this process has held.
-fn peak(rt: &HostRuntime, when: &str) -> io::Result<()> {
-    let text = fs::read_to_string(rt, "/proc/self/status")?;
-    for line in text.as_str().lines() {
-        if let Some(rest) = line.strip_prefix("VmHWM:") {
-            println!(rt; "peak {when},{}", rest.trim())?;
-        }
-    }
-    Ok(())
-}
 END
+    write_peak
 }
 
 make_repository

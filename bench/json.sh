@@ -145,15 +145,10 @@ fn time_answer(rt: &HostRuntime, name: &str, answer: &Said) -> io::Result<()> {
 /// Reads a line once, and prints what the process held at most until then.
 fn time_memory(rt: &HostRuntime, name: &str, line: &[u8]) -> io::Result<()> {
     let _ = read_request(rt.alloc(), line, true);
-    let text = fs::read_to_string(rt, "/proc/self/status")?;
-    for line in text.as_str().lines() {
-        if let Some(rest) = line.strip_prefix("VmHWM:") {
-            println!(rt; "peak {name},{}", rest.trim())?;
-        }
-    }
-    Ok(())
+    peak(rt, name)
 }
 END
+    write_peak
 }
 
 make_repository

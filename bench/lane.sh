@@ -191,17 +191,8 @@ fn ended(alloc: Global, lane: &mut MemoryLane, today: Day, reply: LaneReply) -> 
         _ => 0,
     }
 }
-
-fn peak(rt: &HostRuntime, when: &str) -> io::Result<()> {
-    let text = fs::read_to_string(rt, "/proc/self/status")?;
-    for line in text.as_str().lines() {
-        if let Some(rest) = line.strip_prefix("VmHWM:") {
-            println!(rt; "peak {when},{}", rest.trim())?;
-        }
-    }
-    Ok(())
-}
 END
+    write_peak
 }
 
 make_repository

@@ -26,6 +26,24 @@ make_repository() {
     write_program >"$work/crates/$program/src/main.rt"
 }
 
+# The function `peak`, for a program that uses `std::fs` and `std::io`: it prints the most memory that the
+# process has held.
+write_peak() {
+    cat <<'END'
+
+/// Prints the most memory that this process has held, in KB.
+fn peak(rt: &HostRuntime, when: &str) -> io::Result<()> {
+    let text = fs::read_to_string(rt, "/proc/self/status")?;
+    for line in text.as_str().lines() {
+        if let Some(rest) = line.strip_prefix("VmHWM:") {
+            println!(rt; "peak {when},{}", rest.trim())?;
+        }
+    }
+    Ok(())
+}
+END
+}
+
 # Proves, builds and runs the program.
 take_times() {
     echo "Proving and building the libraries and the program. This takes some minutes." >&2
