@@ -16,8 +16,8 @@ use tail::Tail;
 /// A list that grows at its end and shares what stays.
 ///
 /// Its members lie in chunks of `CHUNK`, which lie in trees, and the last ones in a tail. So a push copies
-/// fewer members than a chunk has and takes the same time at any size, and `get` and `replace` take a time that
-/// grows with the logarithm of the size.
+/// fewer members than a chunk has and takes the same time at any size, and `get` and `replace` take a time
+/// that grows with the logarithm of the size.
 #[derive(Drop)]
 pub struct SharedList<T> {
     chunks: Spine<Chunk<T>>,
