@@ -11,8 +11,9 @@ use Rattle.std.proofs.lemmas.List.Elements.{All-nil, All-cons, All-append, All-w
 use Rattle.std.proofs.lemmas.Map.Text.{is_eq-slice_cmp}
 use Rattle.std.specs.FinMap as map_of
 use Rattle.std.specs.FinMap.{get-insert}
+use Rattle.std.specs.Ordering.{is_eq}
 use Rattle.kb_base.specs.Runs.{Stretch}
-use Rattle.kb_sharing.specs.Keys.{SharedEntries}
+use Rattle.kb_sharing.specs.Keys.{SharedEntries, by_words}
 use Rattle.kb_due.specs.declared.cell.Cell.{Cell}
 use Rattle.kb_tree.specs.Items.{Charge, Numbered, numbered, cell_at}
 use Rattle.kb_tree.specs.Repairs.{bill_of}
@@ -26,9 +27,12 @@ use Rattle.kb_tree.proofs.AddedNumbers.{cell_at-bill, IsBelow-higher}
 abbrev pub cell_of : SharedEntries Cell → ℕ → Option Cell
 cell_of cells number = map_of.get cells (number ∷ [])
 
--- words of one number are the same where the numbers are
-same_word : (a b : ℕ) → ((a == b) && true) ≡ (a == b)
-same_word a b = elim (cases_Bool (a == b)) [ inl same ↦ rw same refl | inr other ↦ rw other refl ]
+-- words of one number tie where the numbers are the same
+pub words_tie : (a b : ℕ) → is_eq (by_words (a ∷ []) (b ∷ [])) ≡ (a == b)
+words_tie a b = is_eq-slice_cmp (a ∷ []) (b ∷ []) ∙ same
+  where
+    same : ((a == b) && true) ≡ (a == b)
+    same = elim (cases_Bool (a == b)) [ inl equal ↦ rw equal refl | inr other ↦ rw other refl ]
 
 -- where a bill's cell is added, its number has it, and each other one what it had
 pub cell_of-insert : (cells : SharedEntries Cell) (key number : ℕ) (cell : Cell)
@@ -37,7 +41,7 @@ pub cell_of-insert : (cells : SharedEntries Cell) (key number : ℕ) (cell : Cel
 cell_of-insert cells key number cell =
     get-insert nat_list_cmp_total cells (key ∷ []) cell (number ∷ [])
     ∙ ap (λ same. cond same (Some cell) (cell_of cells number))
-    (is_eq-slice_cmp (number ∷ []) (key ∷ []) ∙ same_word number key)
+    (words_tie number key)
 
 -- the number of the bill that is added has its cell
 cell_of-here : (cells : SharedEntries Cell) (key : ℕ) (cell : Cell)
@@ -77,28 +81,26 @@ with_cells-known cells first (bill ∷ later) =
     (with_cells-other more (first + 1) first later (omega arith) ∙ cell_of-here cells first bill.value)
     (with_cells-known more (first + 1) later)
 
+-- the next number is above that of a bill with the number above all others
+pub next-above : (cells : SharedEntries Cell) (first : ℕ) (cell : Cell) → AreBelow cells first
+    → AreBelow (map_of.insert cells (first ∷ []) cell) (first + 1)
+next-above cells first cell above number there =
+    by_test (number == first) refl (subst IsSome (cell_of-insert cells first number cell) there)
+  where
+    by_test : (same : Bool) → (number == first) ≡ same
+        → IsSome (if same then Some cell else cell_of cells number) → number < first + 1
+    by_test true same there = omega (arith, eqb-true number first same)
+    by_test false same there = omega (arith, above number there)
+
 -- the numbers with a cell are below one past those of the bills
 pub with_cells-above : (cells : SharedEntries Cell) (first : ℕ) (bills : List (Stretch Cell))
-    → ((number : ℕ) → IsSome (cell_of cells number) → number < first)
-    → (number : ℕ) → IsSome (cell_of (with_cells cells (billed_from first bills)) number)
-    → number < first + length bills
+    → AreBelow cells first → AreBelow (with_cells cells (billed_from first bills)) (first + length bills)
 with_cells-above cells first [] above number there = omega (arith, above number there)
 with_cells-above cells first (bill ∷ later) above number there =
     let more = map_of.insert cells (first ∷ []) bill.value in
     let rest : number < first + 1 + length later =
-    with_cells-above more (first + 1) later below number there in
+    with_cells-above more (first + 1) later (next-above cells first bill.value above) number there in
     omega (arith, rest)
-  where
-    by_test : (number : ℕ) (same : Bool) → (number == first) ≡ same
-        → IsSome (if same then Some bill.value else cell_of cells number) → number < first + 1
-    by_test number true same there = omega (arith, eqb-true number first same)
-    by_test number false same there = omega (arith, above number there)
-
-    below : (number : ℕ) → IsSome (cell_of (map_of.insert cells (first ∷ []) bill.value) number)
-        → number < first + 1
-    below number there =
-        by_test number (number == first) refl
-        (subst (λ (found : Option Cell). IsSome found) (cell_of-insert cells first number bill.value) there)
 
 -- cells that are those of items, with those of bills, are those of the items with the bills
 pub with_cells-items : (items : List Numbered) (first : ℕ) (bills : List (Stretch Cell))
@@ -122,14 +124,6 @@ with_cells-items items first (bill ∷ later) cells below are number =
     number
     ∙ ap (λ items. cell_at items number)
     (append_assoc items ((first, bill_of bill) ∷ []) (numbered (first + 1) (map bill_of later)))
-
--- the next number is above that of a bill with the number above all others
-pub next-above : (cells : SharedEntries Cell) (number : ℕ) (cell : Cell) → AreBelow cells number
-    → AreBelow (map_of.insert cells (number ∷ []) cell) (number + 1)
-next-above cells number cell below other there =
-    let bills : List (Stretch Cell) = record { from = 0; to = 0; value = cell } ∷ [] in
-    let under : other < number + length bills = with_cells-above cells number bills below other there in
-    omega (arith, under)
 
 -- the cells with that of the next bill, and those of the bills behind it
 pub next-cells : (cells all : SharedEntries Cell) (number place : ℕ) (bills : List (Stretch Cell))

@@ -1,22 +1,21 @@
 -- Bills whose numbers rise: where a number stands among them, and what a map of them has at it.
-use Rattle.std.proofs.Common.{◌≡◌, ℕ, zero, suc, ◌+◌, ◌<◌, ◌≤◌, true, false, ◌==◌, ◌&&◌, cond, List, [], ◌∷◌}
+use Rattle.std.proofs.Common.{◌≡◌, ℕ, zero, suc, ◌+◌, ◌<◌, ◌≤◌, true, false, ◌==◌, cond, List, [], ◌∷◌}
 use Rattle.std.proofs.Common.{◌++◌, if◌then◌else◌, length, Option, Some, None, IsSome, refl, sym, ap, subst}
 use Rattle.std.proofs.Common.{◌∙◌, arith, inl, inr}
 use Rattle.std.proofs.lemmas.Bool.{eq-eqb, ne_eqb, cond-true, cond-false, cases_Bool, cases_lt}
 use Rattle.std.proofs.lemmas.Cmp.{nat_list_cmp_total}
 use Rattle.std.proofs.lemmas.List.{map-append}
 use Rattle.std.proofs.lemmas.List.Quantifiers.{all_pairs_push}
-use Rattle.std.proofs.lemmas.Map.Text.{is_eq-slice_cmp}
 use Rattle.std.proofs.lemmas.Option.{get_or_from_slice_get, slice_get_within, slice_get_past}
 use Rattle.std.specs.FinMap as map_of
 use Rattle.std.specs.FinMap.Entries.{find}
 use Rattle.std.specs.FinMap.{get-from_entries, from_entries_push}
 use Rattle.std.specs.List.{AllWithin, slice_get, slice_index_or}
 use Rattle.std.specs.List.Sorted.{IsPartitionPoint}
-use Rattle.std.specs.Ordering.{is_eq}
 use Rattle.kb_sharing.specs.Keys.{by_words}
 use Rattle.kb_due.specs.declared.cell.Cell.{Cell}
 use Rattle.kb_tree.specs.Private.RisingBills.{NumberedCell, worded, IsRising, AreBelow}
+use Rattle.kb_tree.proofs.CellMaps.{words_tie}
 
 -- the bills up to one with a number below another
 pub below-upto : (bills : List NumberedCell) (number place : ℕ) (bill : NumberedCell) → IsRising bills
@@ -54,13 +53,6 @@ above-from bills number place bill rising there above k d low high =
           subst (λ k. number ≤ (slice_index_or bills k d).0) same
           (subst (λ (bill : NumberedCell). number ≤ bill.0) (sym at) above)
     ]
-
--- words of one number tie where the numbers are the same
-words_tie : (a b : ℕ) → is_eq (by_words (a ∷ []) (b ∷ [])) ≡ (a == b)
-words_tie a b = is_eq-slice_cmp (a ∷ []) (b ∷ []) ∙ same
-  where
-    same : ((a == b) && true) ≡ (a == b)
-    same = elim (cases_Bool (a == b)) [ inl equal ↦ rw equal refl | inr other ↦ rw other refl ]
 
 -- the cell at a number
 cell_among : ℕ → List NumberedCell → Option Cell
