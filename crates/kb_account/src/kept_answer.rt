@@ -1,6 +1,6 @@
 //! Answers as they are kept.
 ghost use Rattle.std.specs.Prelude.{◌≡◌, IfOk};
-ghost use Rattle.kb_account.specs.Private.KeptSums.{total_in, credit_in, unpaid_in, AreSums};
+ghost use Rattle.kb_account.specs.Private.KeptSums.{sums_in};
 
 use kb_base::NoMemory;
 use kb_book::Answer;
@@ -29,16 +29,16 @@ pub(crate) struct KeptAnswer {
 
 impl Model for KeptAnswer {
     ghost use Rattle.kb_book.specs.declared.answer.Answer.{Answer};
-    ghost use Rattle.kb_account.specs.Private.KeptSums.{total_in, credit_in, unpaid_in};
+    ghost use Rattle.kb_account.specs.Private.KeptSums.{sums_in};
 
     ghost Value = { Answer };
 
     ghost view = { λ kept. record {
       command = kept.command;
       invoice = kept.invoice;
-      total = total_in kept.sums;
-      credit = credit_in kept.sums;
-      unpaid = unpaid_in kept.sums;
+      total = (sums_in kept.sums).0;
+      credit = (sums_in kept.sums).1;
+      unpaid = (sums_in kept.sums).2;
     } };
 }
 
@@ -73,7 +73,7 @@ impl KeptAnswer {
 impl KeptSums {
     /// Those of an answer.
     fn of(alloc: Global, answer: Answer) -> Result<KeptSums, NoMemory>
-        ensures { IfOk result (AreSums answer.total answer.credit answer.unpaid) }
+        ensures { IfOk result (λ sums. sums_in sums ≡ (answer.total, answer.credit, answer.unpaid)) }
     {
         let sums = (
             i32::try_from(answer.total),
@@ -92,7 +92,7 @@ impl KeptSums {
 
     /// The total, the credit, and what is unpaid.
     fn sums(&self) -> (i128, i128, i128)
-        ensures { AreSums result.0 result.1 result.2 self.now }
+        ensures { result ≡ sums_in self.now }
     {
         match self {
             KeptSums::Small {
