@@ -25,11 +25,10 @@ use Rattle.kb_book.specs.Steps.{Outcome, key_of, keep, own_lines, accepted_over,
 use Rattle.kb_book.specs.Steps.{rows_of, has_all_commands}
 use Rattle.kb_laws.proofs.AcceptedPayments.{first-none, due-found, pay-new}
 use Rattle.kb_laws.proofs.FreshKeys.{fresh-due}
-use Rattle.kb_laws.proofs.RepeatedCommands.{bytes_eq-self}
+use Rattle.kb_laws.proofs.RepeatedCommands.{bytes_eq-self, find-put-self}
 use Rattle.kb_account.proofs.PaymentMoves.{give_back-found}
 use Rattle.kb_attempts.specs.Attempts.{begun_key}
 use Rattle.kb_attempts.specs.Keys.{IsKeyed}
-use Rattle.kb_replays.proofs.PutEntries.{find-put-self}
 use Rattle.kb_attempts.proofs.FoundEntries.{found-put}
 
 -- keeping an answer leaves both

@@ -13,7 +13,7 @@ use Rattle.kb_machine.specs.Machines.{MachineValue, account_of, judged, is_text}
 use Rattle.kb_attempts.specs.Attempts.{attempt_in, attempt_at, begun_key}
 use Rattle.kb_attempts.specs.Begins.{AttemptsBegin, BegunKeysAreFree}
 use Rattle.kb_attempts.specs.Keys.{AreKeyed}
-use Rattle.kb_replays.proofs.PutEntries.{find-put-self}
+use Rattle.kb_laws.proofs.RepeatedCommands.{find-put-self}
 use Rattle.kb_attempts.proofs.JudgedCases.{judged-cases, accepted_on}
 use Rattle.kb_attempts.proofs.AcceptedBooks.{accepted-payments, own-none, key-free, begun-found}
 

@@ -13,8 +13,8 @@ use Rattle.kb_machine.specs.Judged.{after_judged, is_new}
 use Rattle.kb_machine.specs.Machines.{MachineValue, book_of}
 use Rattle.kb_attempts.specs.Attempts.{attempt_in, attempt_at}
 use Rattle.kb_attempts.specs.Settlements.{SettlementsSettle, SettlementsAreNew, SettlementsLeaveOthers}
-use Rattle.kb_laws.proofs.RepeatedCommands.{bytes_eq-self}
-use Rattle.kb_replays.proofs.PutEntries.{find-put-self, find-put-other}
+use Rattle.kb_laws.proofs.RepeatedCommands.{bytes_eq-self, find-put-self}
+use Rattle.kb_replays.proofs.PutEntries.{find-put-other}
 use Rattle.kb_attempts.proofs.FoundEntries.{found-put}
 use Rattle.kb_attempts.proofs.JudgedCases.{judged-cases, accepted_on, accepted-new}
 use Rattle.kb_attempts.proofs.AcceptedBooks.{accepted-payments}

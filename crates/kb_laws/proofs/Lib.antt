@@ -8,6 +8,7 @@ pub mod NotedRows
 pub mod KnownCells
 pub mod ChargedSubscriptions
 pub mod IssuedCharges
+pub mod NothingDue
 pub mod StartedSubscriptions
 pub mod BilledRows
 pub mod BegunBooks

@@ -22,7 +22,7 @@ pub bytes_eq-self : (text : List ℕ) → bytes_eq text text ≡ true
 bytes_eq-self text = (bytes_eq-Decides text text).1 refl
 
 -- what is put in at a key is found there
-find-put-self : (key : List ℕ) (value : Kept) (entries : Keyed Kept)
+pub find-put-self : {X : Type 0} (key : List ℕ) (value : X) (entries : Keyed X)
     → find by_words key (put by_words key value entries) ≡ Some value
 find-put-self key value entries =
     find-put by_words nat_list_cmp_total key key value entries

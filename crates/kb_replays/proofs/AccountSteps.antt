@@ -22,7 +22,8 @@ use Rattle.kb_machine.specs.Judged.{Judged, New, Again, Refused, unless_refused,
 use Rattle.kb_machine.specs.Machines.{MachineValue, account_of, book_of, with_book, by_book, account_judged}
 use Rattle.kb_machine.specs.Machines.{absent_judged, book_judged, opening_rows, of_outcome}
 use Rattle.kb_replays.specs.Keys.{Scope, CatalogTexts, OverdueTexts, OfAccount}
-use Rattle.kb_replays.proofs.PutEntries.{find-put-self, find-put-other}
+use Rattle.kb_laws.proofs.RepeatedCommands.{find-put-self}
+use Rattle.kb_replays.proofs.PutEntries.{find-put-other}
 use Rattle.kb_replays.proofs.BookSteps.{accepted-stays, accepted-kept}
 use Rattle.kb_replays.proofs.JudgedSteps.{judged-new-key, judged-kept-key}
 use Rattle.kb_replays.proofs.ToldReplies.{Told, told_at, told_in, told_answer}

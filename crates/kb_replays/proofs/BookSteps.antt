@@ -12,7 +12,8 @@ use Rattle.kb_book.specs.Books.{BookValue, Kept}
 use Rattle.kb_book.specs.Edits.{begun}
 use Rattle.kb_book.specs.Steps.{Outcome, key_of, kept_of, keep, accepted_over, own_lines, billed_outcome}
 use Rattle.kb_book.specs.Steps.{issue_over}
-use Rattle.kb_replays.proofs.PutEntries.{find-put-self, find-put-stays}
+use Rattle.kb_laws.proofs.RepeatedCommands.{find-put-self}
+use Rattle.kb_replays.proofs.PutEntries.{find-put-stays}
 
 -- a command's own edit leaves what is kept
 begun-kept : (world : WorldValue) (book : BookValue) (today : ℕ) (command : Command)

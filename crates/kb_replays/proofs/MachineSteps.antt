@@ -14,12 +14,12 @@ use Rattle.kb_book.specs.Rows.{first_refusal}
 use Rattle.kb_book.specs.Steps.{key_of}
 use Rattle.kb_reply.specs.declared.reply.LaneReply.{LaneReply}
 use Rattle.kb_reply.specs.declared.reply.LaneReply.TheVariants as replies
-use Rattle.kb_laws.proofs.RepeatedCommands.{bytes_eq-self}
+use Rattle.kb_laws.proofs.RepeatedCommands.{bytes_eq-self, find-put-self}
 use Rattle.kb_machine.specs.Judged.{New, Again, Refused, after_judged, is_new}
 use Rattle.kb_machine.specs.Texts.{KeptText, catalog_rows, with_catalog, with_overdue}
 use Rattle.kb_machine.specs.Machines.{MachineValue, judged, with_texts}
 use Rattle.kb_replays.specs.Keys.{Scope, CatalogTexts, OverdueTexts, OfAccount, scope_of}
-use Rattle.kb_replays.proofs.PutEntries.{find-put-self, find-put-stays}
+use Rattle.kb_replays.proofs.PutEntries.{find-put-stays}
 use Rattle.kb_replays.proofs.ToldReplies.{Told, told_at, told_version, told_states}
 use Rattle.kb_replays.proofs.TextSteps.{text-leaves, text-new, text-kept}
 use Rattle.kb_replays.proofs.AccountSteps.{account-stays, account-new, account-kept}

@@ -22,7 +22,7 @@ use Rattle.kb_machine.specs.Texts.{TextsValue}
 use Rattle.kb_machine.specs.Machines.{MachineValue, account_of, book_of, with_book, with_texts, by_book}
 use Rattle.kb_machine.specs.Machines.{absent_judged, account_judged, book_judged, max_accounts, of_outcome}
 use Rattle.kb_replays.proofs.AccountSteps.{other-stays}
-use Rattle.kb_replays.proofs.PutEntries.{find-put-self}
+use Rattle.kb_laws.proofs.RepeatedCommands.{find-put-self}
 
 -- a book by its name, if it is there
 abbrev pub alone : List ℕ → Option BookValue → Keyed BookValue

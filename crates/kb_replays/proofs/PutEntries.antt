@@ -8,7 +8,6 @@ use Rattle.std.proofs.lemmas.Map.Text.{is_eq-slice_cmp}
 use Rattle.std.proofs.lemmas.Slice.Eq.{bytes_eq-Decides}
 use Rattle.kb_sharing.specs.Keys.{by_words}
 use Rattle.kb_book.specs.Books.{Keyed}
-use Rattle.kb_laws.proofs.RepeatedCommands.{bytes_eq-self}
 
 module _ {X : Type 0} (key own : List ℕ) (value : X) (entries : Keyed X) where
   -- a key that is the same, or another
@@ -40,9 +39,3 @@ module _ {X : Type 0} (key own : List ℕ) (value : X) (entries : Keyed X) where
           let one : key ≡ own = (bytes_eq-Decides key own).0 same in
           let gone : find by_words key entries ≡ None = rw one none in
           absurd (let told = rw gone at is in cc)
-
--- what is put in at a key is found there
-pub find-put-self : {X : Type 0} (key : List ℕ) (value : X) (entries : Keyed X)
-    → find by_words key (put by_words key value entries) ≡ Some value
-find-put-self key value entries =
-    subst (found_by key key value entries) (bytes_eq-self key) (find-put-words key key value entries)
