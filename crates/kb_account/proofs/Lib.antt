@@ -8,6 +8,7 @@ pub mod StartedCharges
 pub mod SoundNexts
 pub mod BegunNexts
 pub mod PreparedSteps
+pub mod LeftDues
 pub mod SettledSteps
 pub mod OpenedBooks
 pub mod StateRows

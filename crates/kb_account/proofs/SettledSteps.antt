@@ -12,22 +12,19 @@ use Rattle.kb_book.specs.Steps.{Outcome, issue_over, rows_of, step, accepted_ove
 use Rattle.kb_account.specs.Issues.{IsIssueOf, IsSettlement}
 use Rattle.kb_account.specs.Prepares.{refusal_by}
 use Rattle.kb_account.specs.Private.Begins.{own_refusal}
+use Rattle.kb_account.proofs.LeftDues.{due-left}
 use Rattle.kb_account.proofs.PreparedSteps.{step-accepted, step-refused}
 
 module _ (world : WorldValue) (book : BookValue) (today : ℕ) (command : Command)
     (settles : IsSettlement command) where
-  -- a settlement leaves what billing looks at
-  pub issue-same : issue_over world (begun world book today command) first_day charged_days
-      ≡ issue_over world book first_day charged_days
-  issue-same = rw settles.1 refl
-
-  -- so the items that are due with it are those of the book
+  -- a settlement leaves what is due, so the items that are due with it are those of the book
   pub issue-settled : (edited : BookValue) (issue shared : Issue) → edited ≡ begun world book today command
       → shared.lines.items ≡ issue.lines.items → shared.charges.items ≡ issue.charges.items
       → IsIssueOf world book issue → IsIssueOf world edited shared
   issue-settled edited issue shared edit lines charges is = record {
     over =
-        ap₂ (λ l c. record { lines = l; charges = c }) lines charges ∙ is.over ∙ sym issue-same
+        ap₂ (λ l c. record { lines = l; charges = c }) lines charges ∙ is.over
+        ∙ sym (due-left world book today command (rw settles.1 refl))
         ∙ sym (ap (λ (b : BookValue). issue_over world b first_day charged_days) edit);
     few = rw lines is.few;
     plain = rw lines is.plain;

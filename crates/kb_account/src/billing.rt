@@ -7,6 +7,7 @@ ghost use Rattle.kb_billing.specs.ItemLines.{IsItemLine};
 ghost use Rattle.kb_book.specs.Dues.{facts_of};
 ghost use Rattle.kb_book.specs.Issues as told;
 ghost use Rattle.kb_book.specs.Steps as steps;
+ghost use Rattle.kb_account.specs.Issues as issues;
 ghost use Rattle.kb_account.specs.Private.States.{value_of};
 ghost use Rattle.kb_account.specs.Private.Begins.{begun_of};
 
@@ -47,6 +48,16 @@ impl State {
             return issue_all(alloc, &facts, &begun.billed, &charges, first);
         }
         issue_all(alloc, &facts, &begun.billed, &self.charges, first)
+    }
+
+    /// No item, and what is charged as it stands.
+    pub fn no_issue(&self, alloc: Global) -> Result<Issue, NoMemory>
+        ensures lines { IfOk result (λ issue. issue.lines.items ≡ []) }
+        ensures charges { IfOk result (λ issue. issue.charges.items ≡ self.now.charges.items) }
+    {
+        let charges = shared(alloc, &self.charges)?;
+        let lines = Vec::new(alloc);
+        Ok(Issue { lines, charges })
     }
 
     /// What billing looks at once the account is edited.
@@ -154,6 +165,23 @@ pub(crate) fn with_own_line(mut lines: Vec<Line>, command: &Command) -> Result<V
         lines.push(line)?;
     }
     Ok(lines)
+}
+
+/// Whether a command leaves what is due, so that no item comes of it if the book is billed.
+pub(crate) fn leaves_due(command: &Command) -> bool
+    ensures { result ≡ issues.leaves_due command.now }
+{
+    match command {
+        Command::Charge(_)
+        | Command::Credit(_)
+        | Command::Pay(_)
+        | Command::Refund(_)
+        | Command::Chargeback(_)
+        | Command::Autopay(_)
+        | Command::Auto(_)
+        | Command::Settle(_) => true,
+        _ => false,
+    }
 }
 
 /// The line of a charge or a credit.

@@ -1,5 +1,5 @@
 //! The book of an account.
-ghost use Rattle.std.specs.Prelude.{◌≡◌, ℕ, List, [], pos, Some, None, Ok, IfOk, IfErr, IfSome};
+ghost use Rattle.std.specs.Prelude.{◌≡◌, ℕ, List, [], pos, true, Some, None, Ok, IfOk, IfErr, IfSome};
 ghost use Rattle.std.specs.FinMap.{entries, put};
 ghost use Rattle.kb_sharing.specs.Keys.{by_words};
 ghost use Rattle.kb_codec.specs.Commands.{spelling};
@@ -68,13 +68,17 @@ impl Book {
 
     /// What a command makes of the book on a day, and its answer; or the answer that was kept, if the command
     /// was accepted before. An `Err` is the first refusal, or comes if memory runs out, and changes nothing.
+    /// If the book is known to be billed by these texts, a command that leaves what is due costs no look at
+    /// it.
     pub fn prepare(
         &self,
         alloc: Global,
         world: &World,
         today: Day,
         command: &Command,
+        billed: bool,
     ) -> Result<Prepared, Unprepared>
+        requires known { billed ≡ true → IsBilled world.now self.now }
         ensures step { IfOk result (λ prepared. told.step world.now self.now today command.now
             ≡ Ok (prepared_outcome self.now prepared)) }
         ensures kept { IfOk result (λ prepared. is_kept prepared ≡ is_kept_command self.now command.now) }
@@ -97,7 +101,7 @@ impl Book {
             Some(answer) => return Ok(Prepared::Kept(answer)),
             None => {}
         }
-        match self.state.accept(alloc, world, today, command) {
+        match self.state.accept(alloc, world, today, command, billed) {
             Ok(next) => Ok(Prepared::Next(next)),
             Err(fault) => Err(fault),
         }

@@ -1,8 +1,9 @@
 //! Settlements of a payment, of which one will be written down: what is due with each is looked at once.
-ghost use Rattle.std.specs.Prelude.{◌≡◌, ◌+◌, ◌^◌, ◌<◌, length, None, OnOk, IfOk, IfErr};
+ghost use Rattle.std.specs.Prelude.{◌≡◌, ◌+◌, ◌^◌, ◌<◌, true, length, None, OnOk, IfOk, IfErr};
 ghost use Rattle.kb_days.specs.Calendar.{first_day, charged_days};
 ghost use Rattle.kb_book.specs.Rows.{IsUnprepared, first_refusal};
 ghost use Rattle.kb_book.specs.Steps as told;
+ghost use Rattle.kb_laws.specs.BilledBooks.{IsBilled};
 ghost use Rattle.kb_laws.specs.SoundBooks.{IsBook};
 ghost use Rattle.kb_account.specs.Issues.{IsIssueOf, IsSettlement};
 ghost use Rattle.kb_account.specs.Prepares.{refusal_by};
@@ -17,11 +18,13 @@ use kb_days::Day;
 use std::alloc::Global;
 
 impl Book {
-    /// The items that bring the book up to what is due, as it stands.
-    pub fn issue(&self, alloc: Global, world: &World) -> Result<Issue, NoMemory>
+    /// The items that bring the book up to what is due, as it stands. None is looked for if the book is known
+    /// to be billed.
+    pub fn issue(&self, alloc: Global, world: &World, billed: bool) -> Result<Issue, NoMemory>
+        requires known { billed ≡ true → IsBilled world.now self.now }
         ensures { IfOk result (IsIssueOf world.now self.now) }
     {
-        self.state.issue_now(alloc, world)
+        self.state.issue_now(alloc, world, billed)
     }
 
     /// What a settlement makes of the book, as `prepare` does; the items that are due are at hand.
@@ -39,6 +42,7 @@ impl Book {
             ≡ Ok (next.answer, next.book)) }
         ensures refused { IfErr result (IsUnprepared (refusal_by
             (told.step world.now self.now today command.now))) }
+        ensures billed { IfOk result (λ next. IsBilled world.now next.book) }
     {
         match self.state.settled(alloc, world, today, command, issue) {
             Ok(next) => Ok(next),
@@ -49,12 +53,17 @@ impl Book {
 
 impl State {
     /// The items that bring an account up to what is due, as it stands.
-    pub fn issue_now(&self, alloc: Global, world: &World) -> Result<Issue, NoMemory>
+    pub fn issue_now(&self, alloc: Global, world: &World, billed: bool) -> Result<Issue, NoMemory>
         requires sound { IsBook (value_of self.now) }
+        requires known { billed ≡ true → IsBilled world.now (value_of self.now) }
         ensures { IfOk result (IsIssueOf world.now (value_of self.now)) }
     {
         if !self.has_room() {
             return Err(NoMemory);
+        }
+        if billed {
+            let none = self.no_issue(alloc)?;
+            return Ok(none);
         }
         let facts = self.facts(world);
         let first = self.invoices.items() + 1;

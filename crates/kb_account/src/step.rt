@@ -1,6 +1,6 @@
 //! One step of an account: refused, kept, or accepted.
 ghost use Rattle.std.specs.Prelude.{◌≡◌, ◌↔◌, ◌-◌, ◌+◌, ◌^◌, ◌<◌, ◌≤◌, length, None};
-ghost use Rattle.std.specs.Prelude.{IsTrue, OnOk, IfOk, IfErr, option_copied};
+ghost use Rattle.std.specs.Prelude.{true, IsTrue, OnOk, IfOk, IfErr, option_copied};
 ghost use Rattle.kb_days.specs.Calendar.{first_day, charged_days};
 ghost use Rattle.std.specs.FinMap.{entries};
 ghost use Rattle.kb_sharing.specs.Sums.{sum_of};
@@ -10,13 +10,16 @@ ghost use Rattle.kb_credit.specs.InvoiceRows.{credit, unpaid};
 ghost use Rattle.kb_book.specs.Rows.{IsUnprepared, first_refusal};
 ghost use Rattle.kb_book.specs.Edits.{begun};
 ghost use Rattle.kb_book.specs.Steps as told;
+ghost use Rattle.kb_laws.specs.BilledBooks.{IsBilled};
 ghost use Rattle.kb_laws.specs.SoundBooks.{IsBook};
 ghost use Rattle.kb_account.specs.Issues.{IsIssueOf};
 ghost use Rattle.kb_account.specs.Private.States.{value_of};
 ghost use Rattle.kb_account.specs.Private.Begins.{begun_of, own_refusal, IsBegun};
 ghost use Rattle.kb_account.specs.Private.KeptAnswers.{kept_answer, kept_refusal, kept_after};
 
-use crate::{Begun, Book, Kept, Next, State, World, invoices_after, key_of, with_own_line};
+use crate::{
+    Begun, Book, Kept, Next, State, World, invoices_after, key_of, leaves_due, with_own_line,
+};
 use kb_base::NoMemory;
 use kb_billing::{Issue, SubscriptionCharges};
 use kb_book::{Answer, Refusal, Unprepared};
@@ -74,15 +77,17 @@ impl State {
 }
 
 impl State {
-    /// The book after a command whose key is new, and its answer.
+    /// The book after a command whose key is new, and its answer. The account may be known to be billed.
     pub fn accept(
         &self,
         alloc: Global,
         world: &World,
         today: Day,
         command: &Command,
+        billed: bool,
     ) -> Result<Next, Unprepared>
         requires sound { IsBook (value_of self.now) }
+        requires known { billed ≡ true → IsBilled world.now (value_of self.now) }
         ensures accepted { OnOk result
             (first_refusal (told.rows_of world.now (value_of self.now) today command.now) ≡ None) }
         ensures next { IfOk result (λ next. told.accepted_over world.now (value_of self.now) today command.now
@@ -100,7 +105,7 @@ impl State {
         if !self.has_room() {
             return Err(Unprepared::NoMemory);
         }
-        Ok(self.billed(alloc, world, today, command, begun)?)
+        Ok(self.billed(alloc, world, today, command, begun, billed)?)
     }
 
     /// Whether the account has as many commands of callers as it may have, and this is one more.
@@ -122,7 +127,8 @@ impl State {
         self.commands < MAX_ACCEPTED && self.invoices.items() < MAX_ITEMS
     }
 
-    /// The book with a command's own edit, billed, and the command's answer.
+    /// The book with a command's own edit, billed, and the command's answer. If the account is known to be
+    /// billed, and the command leaves what is due, no item comes of it, and none is looked for.
     fn billed(
         &self,
         alloc: Global,
@@ -130,8 +136,10 @@ impl State {
         today: Day,
         command: &Command,
         edit: Begun,
+        billed: bool,
     ) -> Result<Next, NoMemory>
         requires sound { IsBook (value_of self.now) }
+        requires known { billed ≡ true → IsBilled world.now (value_of self.now) }
         requires begun { begun_of (value_of self.now) edit
             ≡ begun world.now (value_of self.now) today command.now }
         requires edit { IsBegun (value_of self.now) edit }
@@ -141,6 +149,10 @@ impl State {
         ensures { IfOk result (λ next. told.accepted_over world.now (value_of self.now) today command.now
             first_day charged_days ≡ (next.answer, next.book)) }
     {
+        if billed && leaves_due(command) {
+            let none = self.no_issue(alloc)?;
+            return self.issued(alloc, world, today, command, edit, none);
+        }
         let issue = self.issue(alloc, world, &edit)?;
         self.issued(alloc, world, today, command, edit, issue)
     }

@@ -120,7 +120,7 @@ fn answered(
 type Done = Result<(&'static str, Answer), Unprepared>;
 
 fn done(alloc: Global, world: &World, book: &mut Book, today: Day, command: &Command) -> Done {
-    match book.prepare(alloc, world, today, command) {
+    match book.prepare(alloc, world, today, command, false) {
         Ok(Prepared::Next(next)) => Ok(("", book.commit(next))),
         Ok(Prepared::Kept(answer)) => Ok(("kept ", answer)),
         Err(fault) => Err(fault),

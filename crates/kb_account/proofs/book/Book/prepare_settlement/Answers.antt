@@ -1,8 +1,10 @@
--- A settlement is refused or accepted.
+-- A settlement is refused or accepted, and then the book is billed.
 use Rattle.std.proofs.Common.{◌≡◌, Ok, subst}
 use Rattle.kb_book.specs.Books.{BookValue}
 use Rattle.kb_book.specs.Rows.{IsUnprepared}
-use Rattle.kb_book.specs.Steps.{step}
+use Rattle.kb_book.specs.Steps.{Outcome, step}
+use Rattle.kb_laws.specs.BilledBooks.{IsBilled}
+use Rattle.kb_laws.proofs.AcceptedCommands.{billed-accepted}
 use Rattle.kb_account.specs.Prepares.{refusal_by}
 use Rattle.kb_account.specs.Private.States.{value_of}
 use Rattle.kb_account.proofs.SettledSteps.{step-settled, step-unsettled}
@@ -25,3 +27,9 @@ returns-in-Err-clause-refused c =
     c.self.view_is
     (step-unsettled c.args.world.now (value_of c.self.inside.state) c.args.today c.args.command.now
     c.requires.settlement c.in-Err.fault c.in-Err.ensures.refused)
+
+pub returns-in-Ok-clause-billed : goal.returns-in-Ok-clause-billed
+returns-in-Ok-clause-billed c =
+    subst (λ (outcome : Outcome). IsBilled c.args.world.now outcome.1) c.in-Ok.ensures.next
+    (billed-accepted c.args.world.now (value_of c.self.inside.state) c.args.today c.args.command.now
+    c.self.invariant)

@@ -1,0 +1,64 @@
+-- Nothing is issued with a command that leaves what is due, if the book is billed.
+use Rattle.std.proofs.Common.{◌≡◌, ℕ, true, [], refl, sym, ap, ap₂, ◌∙◌, arith}
+use Rattle.std.proofs.lemmas.List.Elements.{All-nil}
+use Rattle.kb_days.specs.Calendar.{first_day, charged_days}
+use Rattle.kb_codec.specs.declared.command.Command.{Command}
+use Rattle.kb_codec.specs.declared.command.Command.TheVariants as kinds
+use Rattle.kb_billing.specs.declared.issue.Issue.{Issue}
+use Rattle.kb_billing.specs.ItemLines.{IsItemLine}
+use Rattle.kb_book.specs.Worlds.{WorldValue}
+use Rattle.kb_book.specs.Books.{BookValue}
+use Rattle.kb_book.specs.Edits.{begun}
+use Rattle.kb_book.specs.Steps.{issue_over}
+use Rattle.kb_laws.specs.BilledBooks.{IsBilled}
+use Rattle.kb_laws.proofs.NothingDue.{nothing-due}
+use Rattle.kb_account.specs.Issues.{IsIssueOf, leaves_due}
+
+-- what is due stays
+pub due-left : (world : WorldValue) (book : BookValue) (today : ℕ) (command : Command)
+    → leaves_due command ≡ true
+    → issue_over world (begun world book today command) first_day charged_days
+    ≡ issue_over world book first_day charged_days
+due-left world book today (kinds.Catalog c) leaves = absurd (cc)
+due-left world book today (kinds.OverdueRules c) leaves = absurd (cc)
+due-left world book today (kinds.OpenAccount c) leaves = absurd (cc)
+due-left world book today (kinds.Create c) leaves = absurd (cc)
+due-left world book today (kinds.Change c) leaves = absurd (cc)
+due-left world book today (kinds.Cancel c) leaves = absurd (cc)
+due-left world book today (kinds.Uncancel c) leaves = absurd (cc)
+due-left world book today (kinds.Pause c) leaves = absurd (cc)
+due-left world book today (kinds.Resume c) leaves = absurd (cc)
+due-left world book today (kinds.Block c) leaves = absurd (cc)
+due-left world book today (kinds.Bill c) leaves = absurd (cc)
+due-left world book today (kinds.Charge c) leaves = refl
+due-left world book today (kinds.Credit c) leaves = refl
+due-left world book today (kinds.Pay c) leaves = refl
+due-left world book today (kinds.Refund c) leaves = refl
+due-left world book today (kinds.Chargeback c) leaves = refl
+due-left world book today (kinds.Autopay c) leaves = refl
+due-left world book today (kinds.Auto c) leaves = refl
+due-left world book today (kinds.Settle c) leaves = refl
+due-left world book today (kinds.Overdue c) leaves = absurd (cc)
+
+-- of a book that is billed, nothing is
+pub none-of : (world : WorldValue) (book : BookValue) (issue : Issue) → IsBilled world book
+    → issue.lines.items ≡ [] → issue.charges.items ≡ book.charges → IsIssueOf world book issue
+none-of world book issue billed lines charges = record {
+  over = ap₂ (λ l c. record { lines = l; charges = c }) lines charges ∙ sym (nothing-due world book billed);
+  few = rw lines (omega arith);
+  plain = rw lines (All-nil IsItemLine);
+}
+
+-- so nothing is issued with such a command
+pub none-left : (world : WorldValue) (book edited : BookValue) (today : ℕ) (command : Command) (issue : Issue)
+    → IsBilled world book → leaves_due command ≡ true → edited ≡ begun world book today command
+    → issue.lines.items ≡ [] → issue.charges.items ≡ book.charges → IsIssueOf world edited issue
+none-left world book edited today command issue billed leaves edit lines charges =
+    let none = none-of world book issue billed lines charges in
+    record {
+      over =
+          none.over ∙ sym (due-left world book today command leaves)
+          ∙ sym (ap (λ (b : BookValue). issue_over world b first_day charged_days) edit);
+      few = none.few;
+      plain = none.plain;
+    }
