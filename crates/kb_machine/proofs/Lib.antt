@@ -1,5 +1,6 @@
 mod CatalogRows
 mod KeptTexts
+mod KnownBooks
 mod NamedBooks
 mod NoStates
 mod Openings

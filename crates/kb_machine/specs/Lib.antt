@@ -3,3 +3,4 @@ pub mod Texts
 pub mod Machines
 pub mod Histories
 pub mod Plans
+pub mod Private

@@ -3,6 +3,7 @@ use Rattle.std.specs.Prelude.{ℕ, ◌≡◌, List, IsSome, IfSome, None}
 use Rattle.std.specs.FinMap.{entries}
 use Rattle.kb_billing.specs.declared.issue.Issue.{Issue}
 use Rattle.kb_book.specs.Books.{BookValue}
+use Rattle.kb_laws.specs.BilledBooks.{IsBilled}
 use Rattle.kb_account.specs.Issues.{IsIssueOf}
 use Rattle.kb_reply.specs.declared.reply.LaneReply.{LaneReply}
 use Rattle.kb_reply.specs.declared.reply.LaneReply.TheVariants as replies
@@ -38,11 +39,12 @@ plan_judged machine (plans.Opened opened) =
     New (replies.Accepted opened.answer) (with_book machine opened.account opened.book)
 plan_judged machine (plans.Again reply) = Again reply
 
--- the account whose book changes is there
+-- the account whose book changes is there, and the texts bill its new book
 abbrev pub IsThere : MachineValue → Change → Type 0
 IsThere machine (changes.Catalog catalog keys number) = Unit {0}
 IsThere machine (changes.Overdue config keys number) = Unit {0}
-IsThere machine (changes.Book account next) = IsSome (book_of machine account)
+IsThere machine (changes.Book account next) =
+    IsSome (book_of machine account) × IsBilled machine.texts.world next.book
 
 -- what is issued for an account that is there, as it stands
 abbrev pub IsIssueIn : MachineValue → List ℕ → Issue → Type 0

@@ -1,13 +1,15 @@
 //! The machine, and what it plans for a command.
-ghost use Rattle.std.specs.Prelude.{◌≡◌, true, IfOk, IfErr, IfSome, OnOk, OnErr, [], None, Some};
+ghost use Rattle.std.specs.Prelude.{◌≡◌, ℕ, List, true, IfOk, IfErr, IfSome, OnOk, OnErr, [], None, Some};
 ghost use Rattle.kb_book.specs.Books.{BookValue};
 ghost use Rattle.kb_book.specs.Rows.{IsUnprepared};
 ghost use Rattle.kb_reply.specs.declared.reply.LaneReply.TheVariants as replies;
+ghost use Rattle.kb_laws.specs.BilledBooks.{IsBilled};
 ghost use Rattle.kb_account.specs.Issues.{IsSettlement};
 ghost use Rattle.kb_machine.specs.Judged.{New, refusal_in, lifted};
 ghost use Rattle.kb_machine.specs.Machines.{MachineValue, no_machine, judged, account_judged};
 ghost use Rattle.kb_machine.specs.Machines.{account_of, book_of, with_book, book_judged, is_text};
 ghost use Rattle.kb_machine.specs.Plans.{plan_judged, changed, change_reply, IsThere, IsIssueIn, Fits};
+ghost use Rattle.kb_machine.specs.Private.KnownBooks.{IsBilledOf};
 
 use crate::{Books, Change, KeptText, Opened, Planned, account_of};
 use kb_account::{Book, Prepared, World};
@@ -33,11 +35,15 @@ pub struct Machine {
     pub(crate) catalogs: SharedMap<Name, KeptText>,
     pub(crate) overdues: SharedMap<Name, KeptText>,
     books: Books,
+    /// The account whose book is known to be billed by the texts: the last one that changed, unless the
+    /// texts did since.
+    billed: Option<Name>,
 }
 
 impl Model for Machine {
     ghost use Rattle.std.specs.FinMap.{entries};
     ghost use Rattle.kb_machine.specs.Machines.{MachineValue};
+    ghost use Rattle.kb_machine.specs.Private.KnownBooks.{IsKnown};
 
     ghost Value = { MachineValue };
 
@@ -49,6 +55,8 @@ impl Model for Machine {
       };
       books = machine.books;
     } };
+
+    ghost invariant = { λ machine. IsKnown machine.world machine.books machine.billed };
 }
 
 impl Machine {
@@ -65,6 +73,7 @@ impl Machine {
             catalogs: SharedMap::new(),
             overdues: SharedMap::new(),
             books: Books::new(alloc),
+            billed: None,
         }
     }
 
@@ -92,7 +101,8 @@ impl Machine {
     pub fn issue(&self, alloc: Global, account: &Name) -> Option<Issue>
         ensures { IfSome result (IsIssueIn self.now account.now) }
     {
-        match self.books.get(account)?.issue(alloc, &self.world) {
+        let billed = self.is_billed(account);
+        match self.books.get(account)?.issue(alloc, &self.world, billed) {
             Ok(issue) => Some(issue),
             Err(_) => None,
         }
@@ -137,6 +147,7 @@ impl Machine {
             } => {
                 self.world.catalog = catalog;
                 self.catalogs = keys;
+                self.billed = None;
                 LaneReply::Version(number)
             }
             Change::Overdue {
@@ -146,11 +157,13 @@ impl Machine {
             } => {
                 self.world.overdue = config;
                 self.overdues = keys;
+                self.billed = None;
                 LaneReply::States(number)
             }
-            Change::Book { account, next } => LaneReply::Accepted(
-                self.books.commit(&account, next),
-            ),
+            Change::Book { account, next } => {
+                self.billed = Some(account);
+                LaneReply::Accepted(self.books.commit(&account, next))
+            }
         }
     }
 
@@ -159,6 +172,7 @@ impl Machine {
         ensures ok { OnOk result (self.new ≡ with_book self.old account book) }
         ensures err { OnErr result (self.new ≡ self.old) }
     {
+        self.billed = None;
         self.books.insert(account, book)
     }
 
@@ -167,6 +181,7 @@ impl Machine {
         ensures { (before : MachineValue) (book : BookValue) → book_of before account.now ≡ None
             → self.old ≡ with_book before account.now book → self.new ≡ before }
     {
+        self.billed = None;
         self.books.remove(account);
     }
 
@@ -182,6 +197,13 @@ impl Machine {
         ensures { result.now ≡ self.now.books }
     {
         &self.books
+    }
+
+    /// Whether the book of an account is known to be billed by the texts.
+    fn is_billed(&self, account: &Name) -> bool
+        ensures { result ≡ true → IsBilledOf self.now.texts.world (book_of self.now account.now) }
+    {
+        is_of(&self.billed, account)
     }
 
     /// What is planned for a command on an account.
@@ -200,7 +222,10 @@ impl Machine {
             (account_judged self.now today command.now))) }
     {
         match self.books.get(&account) {
-            Some(book) => planned_on(book, alloc, &self.world, today, command, account),
+            Some(book) => {
+                let billed = self.is_billed(&account);
+                planned_on(book, alloc, &self.world, today, command, account, billed)
+            }
             None => self.plan_opening(alloc, today, command, account),
         }
     }
@@ -256,7 +281,7 @@ impl Machine {
     }
 }
 
-/// What is planned for a command on an account that is there.
+/// What is planned for a command on an account that is there, and may be known to be billed.
 fn planned_on(
     book: &Book,
     alloc: Global,
@@ -264,18 +289,30 @@ fn planned_on(
     today: Day,
     command: &Command,
     account: Name,
+    billed: bool,
 ) -> Result<Planned, Unprepared>
+    requires known { billed ≡ true → IsBilled world.now book.now }
     ensures judged { IfOk result (λ planned. (machine : MachineValue) → machine.texts.world ≡ world.now
         → book_of machine account ≡ Some book.now → lifted replies.Accepted (with_book machine account)
         (book_judged world.now book.now today command.now) ≡ plan_judged machine planned) }
-    ensures fits { IfOk result (λ planned. (machine : MachineValue) → book_of machine account ≡ Some book.now
-        → Fits machine planned) }
+    ensures fits { IfOk result (λ planned. (machine : MachineValue) → machine.texts.world ≡ world.now
+        → book_of machine account ≡ Some book.now → Fits machine planned) }
     ensures refused { IfErr result (IsUnprepared
         (refusal_in (book_judged world.now book.now today command.now))) }
 {
-    match book.prepare(alloc, world, today, command)? {
+    match book.prepare(alloc, world, today, command, billed)? {
         Prepared::Next(next) => Ok(Planned::Change(Change::Book { account, next })),
         Prepared::Kept(answer) => Ok(Planned::Again(LaneReply::Accepted(answer))),
+    }
+}
+
+/// Whether this account is the one that is named, if one is.
+fn is_of(named: &Option<Name>, account: &Name) -> bool
+    ensures { result ≡ true → named.now ≡ Some account.now }
+{
+    match named {
+        Some(name) => name == account,
+        None => false,
     }
 }
 

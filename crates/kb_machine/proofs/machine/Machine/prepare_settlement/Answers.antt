@@ -1,7 +1,8 @@
--- The account is there, and its book takes the settlement.
-use Rattle.std.proofs.Common.{rules, ◌≡◌, Some, Ok}
+-- The account is there, and its book takes the settlement, and is billed.
+use Rattle.std.proofs.Common.{rules, ◌≡◌, Some, Ok, refl, subst}
+use Rattle.kb_laws.specs.BilledBooks.{IsBilled}
 use Rattle.kb_book.specs.Steps.{step}
-use Rattle.kb_machine.specs.Machines.{book_of}
+use Rattle.kb_machine.specs.Machines.{MachineValue, book_of}
 use Rattle.kb_machine.proofs.Settled.{judged-settled}
 use Rattle.kb_machine.proofs.machine.Machine.prepare_settlement.Goals as goal
 
@@ -13,3 +14,11 @@ returns-in-Ok-clause-judged c =
     ≡ Ok (c.in-Ok.next.answer, c.in-Ok.next.book) = search rules in
     judged-settled c.args.self.now c.args.today c.args.command.now c.args.account book c.in-Ok.next.book
     c.in-Ok.next.answer c.requires.settlement c.requires.named there stepped
+
+pub returns-in-Ok-clause-there : goal.returns-in-Ok-clause-there
+returns-in-Ok-clause-there c =
+    let there : book_of c.args.self.now c.args.account ≡ Some c.in_ok-book.book.now = search rules in (
+      rw there refl,
+      subst (λ (machine : MachineValue). IsBilled machine.texts.world c.in-Ok.next.book) c.self.view_is
+          c.in-Ok.ensures.billed,
+    )
