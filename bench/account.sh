@@ -7,7 +7,8 @@
 # payments and settlements were accepted; and that of 128 subscriptions. `change` moves a subscription to
 # another plan, 24 months ago. Each is prepared and dropped, over and over. The time is taken inside the
 # program, as LLVM builds it, and is the best of five runs of many calls. Then 2,000 accounts are made, each
-# with 24 bills and their automatic payments: the commands a second, and what the process holds of each.
+# with 24 bills and their automatic payments: the commands a second, and what the process holds of each. A
+# payment and its settlement come to an account that is known to be billed, as they do in a lane.
 #
 # The program and the libraries below it are built in a new folder, which takes 6 GB while it is there.
 set -eu
@@ -25,11 +26,13 @@ write_program() {
 //! Times commands on accounts. A line that is printed has what is timed, how many calls were made, and the
 //! nanoseconds that they took; or how much memory the process held at most, in KB.
 #![tactic(auto)]
+ghost use Rattle.std.specs.Prelude.{◌≡◌, true, IfSome};
+ghost use Rattle.kb_laws.specs.BilledBooks.{IsBilled};
 
-use kb_account::{Book, Prepared, World};
+use kb_account::{Book, Prepared, World, auto_key};
 use kb_catalog_text::read_overdue;
 use kb_codec::{Command, decode};
-use kb_days::{Day, Name};
+use kb_days::Day;
 use kb_overdue::Config;
 use kb_samples::{SHOP, catalog};
 use std::alloc::Global;
@@ -139,7 +142,7 @@ fn time_runs(
 
 /// Whether a command is prepared as a new one.
 fn is_next(alloc: Global, world: &World, book: &Book, today: Day, command: &Command) -> bool {
-    match book.prepare(alloc, world, today, command) {
+    match book.prepare(alloc, world, today, command, false) {
         Ok(Prepared::Next(_)) => true,
         _ => false,
     }
@@ -185,21 +188,18 @@ fn pay_month(alloc: Global, world: &World, book: &mut Book, month: u32) -> Optio
     let today = first_of(month)?;
     send(alloc, world, book, today, &bill(alloc, month)?)?;
     pay_due(alloc, world, book, today)?;
-    for payment in &open_of(alloc, book)? {
-        send(alloc, world, book, today, &settle(alloc, payment.as_str())?)?;
-    }
-    Some(())
+    let payment = auto_key(alloc, month, today).ok()?;
+    send_to(alloc, world, book, today, &settle(alloc, payment.as_str())?, true)
 }
 
-fn pay_due(alloc: Global, world: &World, book: &mut Book, today: Day) -> Option<()> {
+fn pay_due(alloc: Global, world: &World, book: &mut Book, today: Day) -> Option<()>
+    requires billed { IsBilled world.now book.old }
+    ensures billed { IfSome result (λ _. IsBilled world.now book.new) }
+{
     match book.due_next(world, today) {
         None => None,
-        Some(due) => apply(alloc, world, book, today, &due),
+        Some(due) => apply(alloc, world, book, today, &due, true),
     }
-}
-
-fn open_of(alloc: Global, book: &Book) -> Option<Vec<Name>> {
-    book.payments().open_attempts(alloc).ok()
 }
 
 /// An account with subscriptions that are billed for some months, after some rounds of a charge, a payment
@@ -260,9 +260,26 @@ fn first_by(alloc: Global, command: &Command) -> Option<Book> {
 }
 
 /// The account after the command of these bytes.
-fn send(alloc: Global, world: &World, book: &mut Book, today: Day, bytes: &[u8]) -> Option<()> {
+fn send(alloc: Global, world: &World, book: &mut Book, today: Day, bytes: &[u8]) -> Option<()>
+    ensures billed { IfSome result (λ _. IsBilled world.now book.new) }
+{
+    send_to(alloc, world, book, today, bytes, false)
+}
+
+/// The same of an account that may be known to be billed.
+fn send_to(
+    alloc: Global,
+    world: &World,
+    book: &mut Book,
+    today: Day,
+    bytes: &[u8],
+    billed: bool,
+) -> Option<()>
+    requires known { billed ≡ true → IsBilled world.now book.old }
+    ensures billed { IfSome result (λ _. IsBilled world.now book.new) }
+{
     match decode(alloc, bytes) {
-        Ok(Some(command)) => apply(alloc, world, book, today, &command),
+        Ok(Some(command)) => apply(alloc, world, book, today, &command, billed),
         _ => None,
     }
 }
@@ -274,8 +291,12 @@ fn apply(
     book: &mut Book,
     today: Day,
     command: &Command,
-) -> Option<()> {
-    match book.prepare(alloc, world, today, command) {
+    billed: bool,
+) -> Option<()>
+    requires known { billed ≡ true → IsBilled world.now book.old }
+    ensures billed { IfSome result (λ _. IsBilled world.now book.new) }
+{
+    match book.prepare(alloc, world, today, command, billed) {
         Ok(Prepared::Next(next)) => {
             book.commit(next);
             Some(())
@@ -356,7 +377,27 @@ END
     write_peak
 }
 
+# Why an account is known to be billed after a command.
+write_proof() {
+    cat <<'END'
+use Rattle.std.proofs.Common.{sym, subst}
+use Rattle.kb_account.specs.declared.next.Prepared.{Prepared}
+use Rattle.kb_account.specs.Prepares.{IfNew}
+use Rattle.kb_laws.specs.BilledBooks.{IsBilled}
+use Rattle.account_times.proofs.apply.Goals as goal
+
+pub returns-in-Ok-Next : goal.returns-in-Ok-Next
+returns-in-Ok-Next c = record {
+  billed = subst (IsBilled c.args.world.now) (sym c.commit.ensures.book)
+      (subst (λ (prepared : Prepared). IfNew (λ book answer. IsBilled c.args.world.now book) prepared)
+      c.in-Ok-Next.field-0-is c.in-Ok-Next.ensures.billed);
+}
+END
+}
+
 make_repository
+mkdir -p "$work/crates/$program/proofs/apply"
+write_proof >"$work/crates/$program/proofs/apply/Answers.antt"
 take_times
 awk -F , '
     /^peak|^accounts held/ { split($2, number, " "); figure[$1] = number[1]; next }
