@@ -1,5 +1,5 @@
 //! The machine, and what it plans for a command.
-ghost use Rattle.std.specs.Prelude.{◌≡◌, ℕ, List, true, IfOk, IfErr, IfSome, OnOk, OnErr, [], None, Some};
+ghost use Rattle.std.specs.Prelude.{◌≡◌, true, IfOk, IfErr, IfSome, OnOk, OnErr, [], None, Some};
 ghost use Rattle.kb_book.specs.Books.{BookValue};
 ghost use Rattle.kb_book.specs.Rows.{IsUnprepared};
 ghost use Rattle.kb_reply.specs.declared.reply.LaneReply.TheVariants as replies;
