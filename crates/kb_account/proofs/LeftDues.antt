@@ -12,7 +12,8 @@ use Rattle.kb_book.specs.Edits.{begun}
 use Rattle.kb_book.specs.Steps.{issue_over}
 use Rattle.kb_laws.specs.BilledBooks.{IsBilled}
 use Rattle.kb_laws.proofs.NothingDue.{nothing-due}
-use Rattle.kb_account.specs.Issues.{IsIssueOf, leaves_due}
+use Rattle.kb_account.specs.Issues.{IsIssueOf}
+use Rattle.kb_account.specs.Private.LeavingCommands.{leaves_due}
 
 -- what is due stays
 pub due-left : (world : WorldValue) (book : BookValue) (today : ℕ) (command : Command)
@@ -40,6 +41,18 @@ due-left world book today (kinds.Auto c) leaves = refl
 due-left world book today (kinds.Settle c) leaves = refl
 due-left world book today (kinds.Overdue c) leaves = absurd (cc)
 
+-- so what is issued for the book is issued with such a command
+pub issue-left : (world : WorldValue) (book edited : BookValue) (today : ℕ) (command : Command) (issue : Issue)
+    → leaves_due command ≡ true → edited ≡ begun world book today command
+    → IsIssueOf world book issue → IsIssueOf world edited issue
+issue-left world book edited today command issue leaves edit is = record {
+  over =
+      is.over ∙ sym (due-left world book today command leaves)
+      ∙ sym (ap (λ (b : BookValue). issue_over world b first_day charged_days) edit);
+  few = is.few;
+  plain = is.plain;
+}
+
 -- of a book that is billed, nothing is
 pub none-of : (world : WorldValue) (book : BookValue) (issue : Issue) → IsBilled world book
     → issue.lines.items ≡ [] → issue.charges.items ≡ book.charges → IsIssueOf world book issue
@@ -49,16 +62,10 @@ none-of world book issue billed lines charges = record {
   plain = rw lines (All-nil IsItemLine);
 }
 
--- so nothing is issued with such a command
+-- so with such a command nothing is
 pub none-left : (world : WorldValue) (book edited : BookValue) (today : ℕ) (command : Command) (issue : Issue)
     → IsBilled world book → leaves_due command ≡ true → edited ≡ begun world book today command
     → issue.lines.items ≡ [] → issue.charges.items ≡ book.charges → IsIssueOf world edited issue
 none-left world book edited today command issue billed leaves edit lines charges =
-    let none = none-of world book issue billed lines charges in
-    record {
-      over =
-          none.over ∙ sym (due-left world book today command leaves)
-          ∙ sym (ap (λ (b : BookValue). issue_over world b first_day charged_days) edit);
-      few = none.few;
-      plain = none.plain;
-    }
+    issue-left world book edited today command issue leaves edit
+    (none-of world book issue billed lines charges)

@@ -12,7 +12,7 @@ use Rattle.kb_book.specs.Steps.{Outcome, issue_over, rows_of, step, accepted_ove
 use Rattle.kb_account.specs.Issues.{IsIssueOf, IsSettlement}
 use Rattle.kb_account.specs.Prepares.{refusal_by}
 use Rattle.kb_account.specs.Private.Begins.{own_refusal}
-use Rattle.kb_account.proofs.LeftDues.{due-left}
+use Rattle.kb_account.proofs.LeftDues.{issue-left}
 use Rattle.kb_account.proofs.PreparedSteps.{step-accepted, step-refused}
 
 module _ (world : WorldValue) (book : BookValue) (today : ℕ) (command : Command)
@@ -21,14 +21,12 @@ module _ (world : WorldValue) (book : BookValue) (today : ℕ) (command : Comman
   pub issue-settled : (edited : BookValue) (issue shared : Issue) → edited ≡ begun world book today command
       → shared.lines.items ≡ issue.lines.items → shared.charges.items ≡ issue.charges.items
       → IsIssueOf world book issue → IsIssueOf world edited shared
-  issue-settled edited issue shared edit lines charges is = record {
-    over =
-        ap₂ (λ l c. record { lines = l; charges = c }) lines charges ∙ is.over
-        ∙ sym (due-left world book today command (rw settles.1 refl))
-        ∙ sym (ap (λ (b : BookValue). issue_over world b first_day charged_days) edit);
-    few = rw lines is.few;
-    plain = rw lines is.plain;
-  }
+  issue-settled edited issue shared edit lines charges is =
+      issue-left world book edited today command shared (rw settles.1 refl) edit (record {
+        over = ap₂ (λ l c. record { lines = l; charges = c }) lines charges ∙ is.over;
+        few = rw lines is.few;
+        plain = rw lines is.plain;
+      })
 
   -- no limit of commands refuses it
   pub rows-settled : first_refusal (rows_of world book today command) ≡ own_refusal world book today command

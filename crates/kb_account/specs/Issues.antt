@@ -1,5 +1,5 @@
--- What is issued for a book, and commands that leave it as it is, as settlements do.
-use Rattle.std.specs.Prelude.{◌≡◌, ◌≤◌, ◌*◌, Bool, true, false, length, All}
+-- What is issued for a book, and settlements, which leave that as it is.
+use Rattle.std.specs.Prelude.{◌≡◌, ◌≤◌, ◌*◌, length, All}
 use Rattle.kb_days.specs.Calendar.{first_day, charged_days}
 use Rattle.kb_codec.specs.declared.command.Command.{Command}
 use Rattle.kb_codec.specs.declared.command.Command.TheVariants as kinds
@@ -16,19 +16,6 @@ pub record IsIssueOf (world : WorldValue) (book : BookValue) (issue : Issue) : T
       ≡ issue_over world book first_day charged_days
   pub few : length issue.lines.items ≤ 512 * charged_days
   pub plain : All IsItemLine issue.lines.items
-
--- A command leaves what is due, since its own edit is of no subscription, no blocking state and no billed date.
--- So do some other commands, but not for each book.
-abbrev pub leaves_due : Command → Bool
-leaves_due (kinds.Charge c) = true
-leaves_due (kinds.Credit c) = true
-leaves_due (kinds.Pay c) = true
-leaves_due (kinds.Refund c) = true
-leaves_due (kinds.Chargeback c) = true
-leaves_due (kinds.Autopay c) = true
-leaves_due (kinds.Auto c) = true
-leaves_due (kinds.Settle c) = true
-leaves_due _ = false
 
 -- a command is a settlement
 abbrev pub IsSettlement : Command → Type 0

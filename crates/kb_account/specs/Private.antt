@@ -3,3 +3,4 @@ pub mod Begins
 pub mod Moves
 pub mod KeptAnswers
 pub mod KeptSums
+pub mod LeavingCommands

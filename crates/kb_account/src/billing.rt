@@ -7,9 +7,9 @@ ghost use Rattle.kb_billing.specs.ItemLines.{IsItemLine};
 ghost use Rattle.kb_book.specs.Dues.{facts_of};
 ghost use Rattle.kb_book.specs.Issues as told;
 ghost use Rattle.kb_book.specs.Steps as steps;
-ghost use Rattle.kb_account.specs.Issues as issues;
 ghost use Rattle.kb_account.specs.Private.States.{value_of};
 ghost use Rattle.kb_account.specs.Private.Begins.{begun_of};
+ghost use Rattle.kb_account.specs.Private.LeavingCommands as leaving;
 
 use crate::{Begun, State, World};
 use kb_base::NoMemory;
@@ -169,7 +169,7 @@ pub(crate) fn with_own_line(mut lines: Vec<Line>, command: &Command) -> Result<V
 
 /// Whether a command leaves what is due, so that no item comes of it if the book is billed.
 pub(crate) fn leaves_due(command: &Command) -> bool
-    ensures { result ≡ issues.leaves_due command.now }
+    ensures { result ≡ leaving.leaves_due command.now }
 {
     match command {
         Command::Charge(_)
