@@ -1,5 +1,5 @@
 //! The machine, and what it plans for a command.
-ghost use Rattle.std.specs.Prelude.{◌≡◌, true, IfOk, IfErr, IfSome, OnOk, OnErr, [], None, Some};
+ghost use Rattle.std.specs.Prelude.{◌≡◌, ◌↔◌, true, IfOk, IfErr, IfSome, OnOk, OnErr, [], None, Some};
 ghost use Rattle.kb_book.specs.Books.{BookValue};
 ghost use Rattle.kb_book.specs.Rows.{IsUnprepared};
 ghost use Rattle.kb_reply.specs.declared.reply.LaneReply.TheVariants as replies;
@@ -308,7 +308,7 @@ fn planned_on(
 
 /// Whether this account is the one that is named, if one is.
 fn is_of(named: &Option<Name>, account: &Name) -> bool
-    ensures { result ≡ true → named.now ≡ Some account.now }
+    ensures { (result ≡ true) ↔ (named.now ≡ Some account.now) }
 {
     match named {
         Some(name) => name == account,
