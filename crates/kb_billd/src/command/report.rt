@@ -76,7 +76,6 @@ fn report_open<O: Sink, V: Vault>(
 }
 
 /// Prints the report of a kind.
-#[tactic(auto, using(crate::proofs::Reported::prints_by))]
 fn print_by<D: Disk, G: Gateway + Drop, O: Sink>(
     alloc: Global,
     kind: ReportKind,
