@@ -1,5 +1,5 @@
 -- What is due with a settlement is what is due of the book as it stands, and a settlement has no key.
-use Rattle.std.proofs.Common.{◌≡◌, ℕ, None, Ok, refl, sym, ap, ap₂, ◌∙◌}
+use Rattle.std.proofs.Common.{◌≡◌, ℕ, None, Ok, refl, ap₂, ◌∙◌}
 use Rattle.kb_days.specs.Calendar.{first_day, charged_days}
 use Rattle.kb_codec.specs.declared.command.Command.{Command}
 use Rattle.kb_billing.specs.declared.issue.Issue.{Issue}
@@ -8,7 +8,7 @@ use Rattle.kb_book.specs.Worlds.{WorldValue}
 use Rattle.kb_book.specs.Books.{BookValue}
 use Rattle.kb_book.specs.Edits.{begun}
 use Rattle.kb_book.specs.Rows.{first_refusal, IsUnprepared}
-use Rattle.kb_book.specs.Steps.{Outcome, issue_over, rows_of, step, accepted_over}
+use Rattle.kb_book.specs.Steps.{Outcome, rows_of, step, accepted_over}
 use Rattle.kb_account.specs.Issues.{IsIssueOf, IsSettlement}
 use Rattle.kb_account.specs.Prepares.{refusal_by}
 use Rattle.kb_account.specs.Private.Begins.{own_refusal}
