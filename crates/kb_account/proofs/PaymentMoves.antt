@@ -124,40 +124,30 @@ moves-once old new invoice one two first second =
     omega (arith, ints)
 
 -- a settlement moves what it says on the attempt's invoice
-pub settle-moved : (old new : PaymentsValue) (key : List ℕ) (status : Status) (invoice : ℕ) (moved : ℤ)
+pub settle-moved : (old new : PaymentsValue) (key : List ℕ) (attempt : Attempt) (status : Status)
+    (invoice : ℕ) (moved : ℤ)
     → first_refusal (settle_rows old key status) ≡ None → new ≡ settled old key status → ArePayments old
-    → invoice ≡ invoice_of old key
-    → IfSome (attempt_of old key) (λ attempt. Moves old new attempt.invoice moved)
-    → IfSome (attempt_of old key) (λ attempt. attempt.amount < 2 ^ 64)
-    → HasMoved old new (record { invoice = invoice; amount = moved })
-settle-moved old new key status invoice moved none is are at moves low =
-    by_found (attempt_of old key) refl
-    (first-none (not (may_settle (attempt_of old key) status)) refusal.PaymentState [] none).0
+    → attempt_of old key ≡ Some attempt → invoice ≡ attempt.invoice → Moves old new attempt.invoice moved
+    → attempt.amount < 2 ^ 64 → HasMoved old new (record { invoice = invoice; amount = moved })
+settle-moved old new key attempt status invoice moved none is are there place told few =
+    let may : not (may_settle (attempt_of old key) status) ≡ false =
+    (first-none (not (may_settle (attempt_of old key) status)) refusal.PaymentState [] none).0 in
+    let made : new ≡ with_attempt old key (with_status attempt status) = rw there at is in
+    let after : Attempt = with_status attempt status in
+    let worth : ℤ = pays after in
+    let by : Moves old new attempt.invoice worth =
+    subst (λ (payments : PaymentsValue). Moves old payments attempt.invoice worth) (sym made)
+    (settle-moves old key attempt status are.sorted there
+    (opened (is_open attempt.status) (not (same_status attempt.status status)) (rw there at may))) in
+    let same = moves-once old new attempt.invoice moved worth told by in
+    record {
+      by = subst (λ (number : ℕ). Moves old new number moved) (sym place) told;
+      small = let size = ap nat_abs same in omega (arith, size, few, nat_abs-pays after);
+    }
   where
     opened : (is_opened other : Bool) → not (is_opened && other) ≡ false → is_opened ≡ true
     opened true other may = refl
     opened false other may = absurd (cc)
-
-    by_found : (found : Option Attempt) → attempt_of old key ≡ found
-        → not (may_settle (attempt_of old key) status) ≡ false
-        → HasMoved old new (record { invoice = invoice; amount = moved })
-    by_found None there may = absurd (let told = rw there at may in cc)
-    by_found (Some attempt) there may =
-        let place : invoice ≡ attempt.invoice = at ∙ ap invoice_by there in
-        let made : new ≡ with_attempt old key (with_status attempt status) = rw there at is in
-        let told : Moves old new attempt.invoice moved = rw there at moves in
-        let few : attempt.amount < 2 ^ 64 = rw there at low in
-        let after : Attempt = with_status attempt status in
-        let worth : ℤ = pays after in
-        let by : Moves old new attempt.invoice worth =
-        subst (λ (payments : PaymentsValue). Moves old payments attempt.invoice worth) (sym made)
-        (settle-moves old key attempt status are.sorted there
-        (opened (is_open attempt.status) (not (same_status attempt.status status)) (rw there at may))) in
-        let same = moves-once old new attempt.invoice moved worth told by in
-        record {
-          by = subst (λ (number : ℕ). Moves old new number moved) (sym place) told;
-          small = let size = ap nat_abs same in omega (arith, size, few, nat_abs-pays after);
-        }
 
 -- the invoice of an attempt is there
 pub invoice-there : (count : ℕ) (payments : PaymentsValue) (key : List ℕ) → AreInvoiced count payments

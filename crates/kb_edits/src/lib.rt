@@ -27,7 +27,7 @@ use entry::some_plan;
 pub use pauses::{pause, resume};
 pub use payments::{chargeback, pay, pay_automatically, refund};
 pub use places::place_of;
-pub use settlements::settle;
+pub use settlements::{Settled, settle};
 pub use starts::start;
 pub use states::enter_state;
 use states::with_state;

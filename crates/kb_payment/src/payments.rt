@@ -1,7 +1,8 @@
 //! The payments of an account.
-ghost use Rattle.std.specs.Prelude.{◌≡◌, ◌≤ℤ◌, ℕ, pos, neg_ℤ, int_lt, None, Err, IfOk, IfErr, IfSome, All};
-ghost use Rattle.std.specs.Prelude.{List};
+ghost use Rattle.std.specs.Prelude.{◌≡◌, ◌≤ℤ◌, ℕ, pos, neg_ℤ, int_lt, None, Some, Err, IfOk, IfErr, IfSome};
+ghost use Rattle.std.specs.Prelude.{All, List, true};
 ghost use Rattle.std.specs.List.{AllPairs};
+ghost use Rattle.kb_payment.specs.Attempts.{is_open};
 ghost use Rattle.kb_payment.specs.PaymentSums.{attempt_of, open_purchases, has_automatic_since, open_keys};
 ghost use Rattle.kb_payment.specs.PaymentSums.{IsOpenKey};
 ghost use Rattle.kb_payment.specs.PaymentSums.{paid_on, StayFinal, Moves};
@@ -203,7 +204,6 @@ impl Payments {
 
     /// Gives an open attempt a status, and says by how much what is paid on its invoice moves. Refused as
     /// `NoPayment` if the key has no attempt, and as `PaymentState` if the attempt isn't open.
-    #[tactic(auto, using(crate::proofs::EditLaws::settlement_moved, crate::proofs::EditLaws::settlement_lasting))]
     pub fn settle(
         &self,
         alloc: Global,
@@ -224,8 +224,29 @@ impl Payments {
         if !attempt.status.is_open() {
             return Err(PayFault::PaymentState);
         }
-        let payments = self.with_status(alloc, key, &attempt, status)?;
-        Ok((payments, moved_by(&attempt, status)))
+        Ok(self.settle_open(alloc, key, &attempt, status)?)
+    }
+
+    /// Gives an open attempt that is at hand a status, as `settle` does.
+    #[tactic(auto, using(crate::proofs::EditLaws::settlement_moved, crate::proofs::EditLaws::settlement_lasting))]
+    pub fn settle_open(
+        &self,
+        alloc: Global,
+        key: Name,
+        attempt: &Attempt,
+        status: Status,
+    ) -> Result<(Payments, i128), NoMemory>
+        requires there { attempt_of self.now key ≡ Some attempt.now }
+        requires opened { is_open attempt.now.status ≡ true }
+        ensures settled { IfOk result (λ settled_by. settled_by.0 ≡ settled self.now key status) }
+        ensures moved { IfOk result (λ settled_by. IfSome (attempt_of self.now key)
+            (λ found. Moves self.now settled_by.0 found.invoice settled_by.1)) }
+        ensures lasting { IfOk result (λ settled_by. StayFinal self.now settled_by.0) }
+    {
+        // The check has to see that the payments are sound.
+        let _attempts = &self.attempts;
+        let payments = self.with_status(alloc, key, attempt, status)?;
+        Ok((payments, moved_by(attempt, status)))
     }
 }
 

@@ -1,7 +1,5 @@
 //! Payments, refunds, chargebacks and settlements.
-ghost use Rattle.std.specs.Prelude.{◌≡◌, ◌<◌, ◌^◌, pos, true, None, Some, OnOk, IfOk, IfErr, IfSome};
-ghost use Rattle.kb_payment.specs.PaymentSums.{attempt_of};
-ghost use Rattle.kb_payment.specs.SoundPayments.{ArePayments};
+ghost use Rattle.std.specs.Prelude.{◌≡◌, ◌<◌, ◌^◌, pos, true, None, Some, OnOk, IfOk, IfErr};
 ghost use Rattle.kb_book.specs.Rows.{IsUnprepared};
 ghost use Rattle.kb_payment.specs.PaymentEdits.{purchased};
 ghost use Rattle.kb_book.specs.Edits.{begun, auto_key};
@@ -108,9 +106,9 @@ impl State {
         ensures refused { IfErr result (IsUnprepared (own_refusal world.now (value_of self.now) today
             (Command.Settle settle.now))) }
     {
-        let (payments, amount) = edits::settle(alloc, &self.payments, settle)?;
-        let moved = move_on(self.invoice_of(settle.payment), amount);
-        Ok(self.with_payments(alloc, payments, moved)?)
+        let settled = edits::settle(alloc, &self.payments, settle)?;
+        let moved = move_on(invoice_by(&settled.attempt), settled.moved);
+        Ok(self.with_payments(alloc, settled.payments, moved)?)
     }
 
     /// The automatic payment of an invoice.
@@ -175,9 +173,6 @@ impl State {
     /// The invoice of the attempt of a key; 0 if there is none.
     fn invoice_of(&self, key: Name) -> u32
         ensures invoice { result ≡ invoice_of (value_of self.now).payments key }
-        ensures amount { IfSome (attempt_of (value_of self.now).payments key)
-            (λ attempt. attempt.amount < 2 ^ 64) }
-        ensures sound { ArePayments (value_of self.now).payments }
     {
         match self.payments.attempt(key) {
             None => 0,
