@@ -1,6 +1,7 @@
 -- Nothing is issued with a command that leaves what is due, if the book is billed.
 use Rattle.std.proofs.Common.{◌≡◌, ℕ, true, [], refl, sym, ap, ap₂, ◌∙◌, arith}
 use Rattle.std.proofs.lemmas.List.Elements.{All-nil}
+use Rattle.std.specs.Arc.{arc_value}
 use Rattle.kb_days.specs.Calendar.{first_day, charged_days}
 use Rattle.kb_codec.specs.declared.command.Command.{Command}
 use Rattle.kb_codec.specs.declared.command.Command.TheVariants as kinds
@@ -55,7 +56,7 @@ issue-left world book edited today command issue leaves edit is = record {
 
 -- of a book that is billed, nothing is
 pub none-of : (world : WorldValue) (book : BookValue) (issue : Issue) → IsBilled world book
-    → issue.lines.items ≡ [] → issue.charges.items ≡ book.charges → IsIssueOf world book issue
+    → issue.lines.items ≡ [] → (arc_value issue.charges).items ≡ book.charges → IsIssueOf world book issue
 none-of world book issue billed lines charges = record {
   over = ap₂ (λ l c. record { lines = l; charges = c }) lines charges ∙ sym (nothing-due world book billed);
   few = rw lines (omega arith);
@@ -65,7 +66,7 @@ none-of world book issue billed lines charges = record {
 -- so with such a command nothing is
 pub none-left : (world : WorldValue) (book edited : BookValue) (today : ℕ) (command : Command) (issue : Issue)
     → IsBilled world book → leaves_due command ≡ true → edited ≡ begun world book today command
-    → issue.lines.items ≡ [] → issue.charges.items ≡ book.charges → IsIssueOf world edited issue
+    → issue.lines.items ≡ [] → (arc_value issue.charges).items ≡ book.charges → IsIssueOf world edited issue
 none-left world book edited today command issue billed leaves edit lines charges =
     issue-left world book edited today command issue leaves edit
     (none-of world book issue billed lines charges)

@@ -1,5 +1,6 @@
 -- What is due with a settlement is what is due of the book as it stands, and a settlement has no key.
 use Rattle.std.proofs.Common.{◌≡◌, ℕ, None, Ok, refl, ap₂, ◌∙◌}
+use Rattle.std.specs.Arc.{arc_value}
 use Rattle.kb_days.specs.Calendar.{first_day, charged_days}
 use Rattle.kb_codec.specs.declared.command.Command.{Command}
 use Rattle.kb_billing.specs.declared.issue.Issue.{Issue}
@@ -19,7 +20,7 @@ module _ (world : WorldValue) (book : BookValue) (today : ℕ) (command : Comman
     (settles : IsSettlement command) where
   -- a settlement leaves what is due, so the items that are due with it are those of the book
   pub issue-settled : (edited : BookValue) (issue shared : Issue) → edited ≡ begun world book today command
-      → shared.lines.items ≡ issue.lines.items → shared.charges.items ≡ issue.charges.items
+      → shared.lines.items ≡ issue.lines.items → (arc_value shared.charges).items ≡ (arc_value issue.charges).items
       → IsIssueOf world book issue → IsIssueOf world edited shared
   issue-settled edited issue shared edit lines charges is =
       issue-left world book edited today command shared (rw settles.1 refl) edit (record {

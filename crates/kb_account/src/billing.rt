@@ -1,6 +1,7 @@
 //! The items that an edited account gets, and the lines of a command.
 ghost use Rattle.std.specs.Prelude.{◌≡◌, ◌+◌, ◌*◌, ◌^◌, ◌<◌, ◌≤◌, ◌++◌, ◌∷◌, [], length, All, IfOk};
 ghost use Rattle.std.specs.Prelude.{option_to_list};
+ghost use Rattle.std.specs.Arc.{arc_value};
 ghost use Rattle.kb_days.specs.Calendar.{first_day, charged_days};
 ghost use Rattle.kb_billing.specs.Numbers.{AreBelow};
 ghost use Rattle.kb_billing.specs.ItemLines.{IsItemLine};
@@ -22,6 +23,7 @@ use kb_timeline::Timeline;
 use kb_tree::{ItemNo, Steps};
 use std::alloc::Global;
 use std::marker::Brand;
+use std::sync::Arc;
 use std::sync::ledger::{Blank, Ledger};
 
 impl State {
@@ -34,8 +36,7 @@ impl State {
         requires room { length self.now.invoices.items < 2 ^ 60 }
         ensures issue { IfOk result (λ issue. record {
           lines = issue.lines.items;
-          charges =
-              issue.charges.items;
+          charges = (arc_value issue.charges).items;
         }
             ≡ steps.issue_over world.now (begun_of (value_of self.now) begun.now) first_day charged_days) }
         ensures few { IfOk result (λ issue. length issue.lines.items ≤ 512 * charged_days) }
@@ -44,18 +45,19 @@ impl State {
         let facts = self.facts_after(world, begun);
         let first = self.invoices.items() + 1;
         if begun.started {
-            let charges = with_start(alloc, &self.charges)?;
+            let charges = with_start(alloc, self.charges.as_slice())?;
             return issue_all(alloc, &facts, &begun.billed, &charges, first);
         }
-        issue_all(alloc, &facts, &begun.billed, &self.charges, first)
+        issue_all(alloc, &facts, &begun.billed, self.charges.as_slice(), first)
     }
 
     /// No item, and what is charged as it stands.
     pub fn no_issue(&self, alloc: Global) -> Result<Issue, NoMemory>
         ensures lines { IfOk result (λ issue. issue.lines.items ≡ []) }
-        ensures charges { IfOk result (λ issue. issue.charges.items ≡ self.now.charges.items) }
+        ensures charges { IfOk result (λ issue. (arc_value issue.charges).items
+            ≡ (arc_value self.now.charges).items) }
     {
-        let charges = shared(alloc, &self.charges)?;
+        let charges = Arc::try_clone(&self.charges)?;
         let lines = Vec::new(alloc);
         Ok(Issue { lines, charges })
     }
@@ -85,7 +87,10 @@ pub(crate) fn issue_all(
     requires matched { length charges.now ≡ length facts.now.timeline.subscriptions }
     requires below { All (AreBelow first) charges.now }
     requires room { first ≤ 2 ^ 61 }
-    ensures issue { IfOk result (λ issue. record { lines = issue.lines.items; charges = issue.charges.items }
+    ensures issue { IfOk result (λ issue. record {
+      lines = issue.lines.items;
+      charges = (arc_value issue.charges).items;
+    }
         ≡ told.issue_from facts.now billed.now first_day charged_days first 0 charges.now) }
     ensures few { IfOk result (λ issue. length issue.lines.items ≤ 512 * charged_days) }
     ensures plain { IfOk result (λ issue. All IsItemLine issue.lines.items) }
@@ -108,7 +113,10 @@ fn issue_counted<L: Ledger>(
     requires matched { length charges.now ≡ length facts.now.timeline.subscriptions }
     requires below { All (AreBelow first) charges.now }
     requires room { first ≤ 2 ^ 61 }
-    ensures issue { IfOk result (λ issue. record { lines = issue.lines.items; charges = issue.charges.items }
+    ensures issue { IfOk result (λ issue. record {
+      lines = issue.lines.items;
+      charges = (arc_value issue.charges).items;
+    }
         ≡ told.issue_from facts.now billed.now first_day charged_days first 0 charges.now) }
     ensures few { IfOk result (λ issue. length issue.lines.items ≤ 512 * charged_days) }
     ensures plain { IfOk result (λ issue. All IsItemLine issue.lines.items) }
@@ -138,22 +146,11 @@ fn with_start(
 ) -> Result<Vec<SubscriptionCharges>, NoMemory>
     ensures { IfOk result (λ all. all.items ≡ charges.now ++ told.no_items ∷ []) }
 {
-    let mut all = shared(alloc, charges)?;
-    all.push(SubscriptionCharges::new(alloc))?;
-    Ok(all)
-}
-
-/// The same charges.
-pub(crate) fn shared(
-    alloc: Global,
-    charges: &[SubscriptionCharges],
-) -> Result<Vec<SubscriptionCharges>, NoMemory>
-    ensures { IfOk result (λ all. all.items ≡ charges.now) }
-{
-    let mut all = Vec::with_capacity(alloc, charges.len())?;
+    let mut all = Vec::with_capacity(alloc, charges.len() + 1)?;
     for one in charges {
         all.push(one.share()?)?;
     }
+    all.push(SubscriptionCharges::new(alloc))?;
     Ok(all)
 }
 

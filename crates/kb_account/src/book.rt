@@ -166,11 +166,12 @@ fn opened(alloc: Global, command: &Command, asked: &OpenAccount) -> Result<(Book
     let no_timeline = Timeline::new(alloc);
     let no_blocks = Blocks::new(alloc);
     let no_payments = Payments::new(alloc);
+    let no_charges = Vec::new(alloc);
     let timeline = Arc::new(alloc, no_timeline)?;
     let blocks = Arc::new(alloc, no_blocks)?;
     let payments = Arc::new(alloc, no_payments)?;
+    let charges = Arc::new(alloc, no_charges)?;
     let invoices = Invoices::new(alloc);
-    let charges = Vec::new(alloc);
     let state = State {
         account: asked.account,
         currency: asked.currency,

@@ -1,5 +1,6 @@
 //! Edits of one part of an account.
 ghost use Rattle.std.specs.Prelude.{◌≡◌, ◌≤◌, length, Some, IfOk};
+ghost use Rattle.std.specs.Arc.{arc_value};
 ghost use Rattle.kb_book.specs.Edits.{moved_to};
 ghost use Rattle.kb_account.specs.Private.States.{value_of};
 ghost use Rattle.kb_account.specs.Private.Begins.{begun_of, with_started, HasMoved, IsBegun};
@@ -25,7 +26,7 @@ impl State {
         ensures begun { IfOk result (λ begun. begun_of (value_of self.now) begun
             ≡ record (value_of self.now) {
               timeline = timeline;
-              charges = with_started started self.now.charges.items;
+              charges = with_started started (arc_value self.now.charges).items;
               billed = moved_to self.now.billed (Some today);
             }) }
         ensures sound { IfOk result (λ begun. IsBegun (value_of self.now) begun) }

@@ -25,7 +25,7 @@ mod view;
 mod world;
 
 use begun::{Begun, Move, later, move_on};
-use billing::{issue_all, leaves_due, shared, with_own_line};
+use billing::{issue_all, leaves_due, with_own_line};
 pub use book::Book;
 pub use due::auto_key;
 use invoicing::invoices_after;

@@ -1,5 +1,6 @@
 //! Settlements of a payment, of which one will be written down: what is due with each is looked at once.
 ghost use Rattle.std.specs.Prelude.{◌≡◌, ◌+◌, ◌^◌, ◌<◌, true, length, None, OnOk, IfOk, IfErr};
+ghost use Rattle.std.specs.Arc.{arc_value};
 ghost use Rattle.kb_days.specs.Calendar.{first_day, charged_days};
 ghost use Rattle.kb_book.specs.Rows.{IsUnprepared, first_refusal};
 ghost use Rattle.kb_book.specs.Steps as told;
@@ -9,13 +10,14 @@ ghost use Rattle.kb_account.specs.Issues.{IsIssueOf, IsSettlement};
 ghost use Rattle.kb_account.specs.Prepares.{refusal_by};
 ghost use Rattle.kb_account.specs.Private.States.{value_of};
 
-use crate::{Book, Next, State, World, issue_all, shared};
+use crate::{Book, Next, State, World, issue_all};
 use kb_base::NoMemory;
 use kb_billing::Issue;
 use kb_book::Unprepared;
 use kb_codec::Command;
 use kb_days::Day;
 use std::alloc::Global;
+use std::sync::Arc;
 
 impl Book {
     /// The items that bring the book up to what is due, as it stands. None is looked for if the book is known
@@ -67,7 +69,7 @@ impl State {
         }
         let facts = self.facts(world);
         let first = self.invoices.items() + 1;
-        issue_all(alloc, &facts, &self.billed, &self.charges, first)
+        issue_all(alloc, &facts, &self.billed, self.charges.as_slice(), first)
     }
 
     /// The book after a settlement, and its answer.
@@ -101,9 +103,10 @@ impl State {
 /// The same items. It shares what is charged.
 fn share_issue(alloc: Global, issue: &Issue) -> Result<Issue, NoMemory>
     ensures lines { IfOk result (λ same. same.lines.items ≡ issue.now.lines.items) }
-    ensures charges { IfOk result (λ same. same.charges.items ≡ issue.now.charges.items) }
+    ensures charges { IfOk result (λ same. (arc_value same.charges).items
+        ≡ (arc_value issue.now.charges).items) }
 {
     let lines = Vec::from_slice(alloc, &issue.lines)?;
-    let charges = shared(alloc, &issue.charges)?;
+    let charges = Arc::try_clone(&issue.charges)?;
     Ok(Issue { lines, charges })
 }

@@ -31,7 +31,7 @@ pub(crate) struct State {
     pub beside: i128,
     pub payments: Arc<Payments>,
     pub invoices: Invoices,
-    pub charges: Vec<SubscriptionCharges>,
+    pub charges: Arc<Vec<SubscriptionCharges>>,
     /// The name of the present overdue state. None is CLEAR.
     pub overdue: Option<Name>,
     /// The day of the last overdue transition.

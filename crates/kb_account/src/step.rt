@@ -1,6 +1,7 @@
 //! One step of an account: refused, kept, or accepted.
 ghost use Rattle.std.specs.Prelude.{◌≡◌, ◌↔◌, ◌-◌, ◌+◌, ◌^◌, ◌<◌, ◌≤◌, length, None};
 ghost use Rattle.std.specs.Prelude.{true, IsTrue, OnOk, IfOk, IfErr, option_copied};
+ghost use Rattle.std.specs.Arc.{arc_value};
 ghost use Rattle.kb_days.specs.Calendar.{first_day, charged_days};
 ghost use Rattle.std.specs.FinMap.{entries};
 ghost use Rattle.kb_sharing.specs.Sums.{sum_of};
@@ -28,6 +29,7 @@ use kb_credit::{Invoices, Line, total_of};
 use kb_days::{Day, Name};
 use kb_sharing::SharedMap;
 use std::alloc::Global;
+use std::sync::Arc;
 
 /// The most commands of callers that an account accepts.
 const MAX_COMMANDS: u64 = 1_000_000;
@@ -196,13 +198,13 @@ impl State {
         &self,
         edit: Begun,
         invoices: Invoices,
-        charges: Vec<SubscriptionCharges>,
+        charges: Arc<Vec<SubscriptionCharges>>,
         kept: SharedMap<Name, Kept>,
     ) -> State
         requires few { self.now.commands < 2 ^ 32 - 1 }
         ensures { value_of result ≡ record (begun_of (value_of self.now) edit) {
           invoices = invoices;
-          charges = charges.items;
+          charges = (arc_value charges).items;
           commands = self.now.commands + 1;
           kept = entries kept;
         } }

@@ -1,5 +1,6 @@
 //! What is issued for all subscriptions of an account.
 ghost use Rattle.std.specs.Prelude.{◌≡◌, ◌≤◌, ◌+◌, ◌*◌, ◌^◌, length, All, IfOk};
+ghost use Rattle.std.specs.Arc.{arc_value};
 ghost use Rattle.kb_days.specs.Calendar.{first_day, charged_days};
 ghost use Rattle.kb_book.specs.Issues as told;
 ghost use Rattle.kb_billing.specs.Numbers.{AreBelow};
@@ -12,13 +13,15 @@ use kb_days::Day;
 use kb_due::Facts;
 use kb_tree::{ItemNo, Steps};
 use std::alloc::Global;
+use std::sync::Arc;
 use std::sync::ledger::Ledger;
 
-/// What is issued: the lines of the new items, and what is charged to each subscription with them.
+/// What is issued: the lines of the new items, and what is charged to each subscription with them, which books
+/// share.
 #[derive(Drop)]
 pub struct Issue {
     pub lines: Vec<Line>,
-    pub charges: Vec<SubscriptionCharges>,
+    pub charges: Arc<Vec<SubscriptionCharges>>,
 }
 
 /// What is charged to all subscriptions, in order of creation, brought up to what is due at a billed date,
@@ -34,10 +37,13 @@ pub fn issue_due<L: Ledger>(
     requires matched { length charges.now ≡ length facts.now.timeline.subscriptions }
     requires below { All (AreBelow first) charges.now }
     requires room { first ≤ 2 ^ 61 }
-    ensures issue { IfOk result (λ issue. record { lines = issue.lines.items; charges = issue.charges.items }
+    ensures issue { IfOk result (λ issue. record {
+      lines = issue.lines.items;
+      charges = (arc_value issue.charges).items;
+    }
         ≡ told.issue_from facts.now billed.now first_day charged_days first 0 charges.now) }
     ensures below { IfOk result (λ issue. All (AreBelow (first + length issue.lines.items))
-        issue.charges.items) }
+        (arc_value issue.charges).items) }
     ensures few { IfOk result (λ issue. length issue.lines.items ≤ 4 * charged_days * length charges.now) }
     ensures plain { IfOk result (λ issue. All IsItemLine issue.lines.items) }
     ensures steps { steps.new ≡ steps.old }
@@ -56,8 +62,6 @@ pub fn issue_due<L: Ledger>(
         lines.extend_from_slice(&new_lines)?;
         sub += 1;
     }
-    Ok(Issue {
-        lines,
-        charges: all,
-    })
+    let charges = Arc::new(alloc, all)?;
+    Ok(Issue { lines, charges })
 }

@@ -1,5 +1,6 @@
 //! Accounts of the shop, billed in turn.
 ghost use Rattle.std.specs.Prelude.{◌≡◌, ◌<◌, All, IfOk};
+ghost use Rattle.std.specs.Arc.{arc_value};
 ghost use Rattle.kb_billing.specs.Numbers.{AreBelow};
 
 use crate::compare::same;
@@ -14,6 +15,7 @@ use kb_tree::{ItemNo, Steps};
 use std::alloc::Global;
 use std::marker::Brand;
 use std::process::Abort;
+use std::sync::Arc;
 use std::sync::ledger::{Blank, Ledger};
 use std::test::Fail;
 
@@ -325,12 +327,21 @@ fn holds<L: Ledger>(
     steps: &mut Steps<L>,
 ) -> Result<(), Fail> {
     let mut account = Account::new(alloc);
-    let mut charges = without_items(alloc, created(turns))?;
+    let none = without_items(alloc, created(turns))?;
+    let mut charges = Arc::new(alloc, none)?;
     let mut next = 1;
     for turn in turns {
         account = taken(alloc, shop, account, turn.0)?;
         let facts = facts(shop, &account, number)?;
-        let (made, after) = turn_holds(rt, alloc, &facts, (name, turn), &charges, next, steps)?;
+        let (made, after) = turn_holds(
+            rt,
+            alloc,
+            &facts,
+            (name, turn),
+            charges.as_slice(),
+            next,
+            steps,
+        )?;
         charges = made;
         next = after;
     }
@@ -361,9 +372,9 @@ fn turn_holds<L: Ledger>(
     charges: &[SubscriptionCharges],
     first: ItemNo,
     steps: &mut Steps<L>,
-) -> Result<(Vec<SubscriptionCharges>, ItemNo), Fail>
+) -> Result<(Arc<Vec<SubscriptionCharges>>, ItemNo), Fail>
     requires below { All (AreBelow first) charges.now }
-    ensures below { IfOk result (λ made. All (AreBelow made.1) made.0.items) }
+    ensures below { IfOk result (λ made. All (AreBelow made.1) (arc_value made.0).items) }
 {
     let (name, turn) = of;
     let billed = day(turn.1)?;
@@ -404,9 +415,9 @@ fn billed_up_to<L: Ledger>(
     charges: &[SubscriptionCharges],
     first: ItemNo,
     steps: &mut Steps<L>,
-) -> Result<(Vec<SubscriptionCharges>, Vec<Line>, ItemNo), Fail>
+) -> Result<(Arc<Vec<SubscriptionCharges>>, Vec<Line>, ItemNo), Fail>
     requires below { All (AreBelow first) charges.now }
-    ensures below { IfOk result (λ made. All (AreBelow made.2) made.0.items) }
+    ensures below { IfOk result (λ made. All (AreBelow made.2) (arc_value made.0).items) }
 {
     assert!(rt; charges.len() as u64 == u64::from(facts.timeline.len()));
     assert!(rt; first <= 1_000_000);

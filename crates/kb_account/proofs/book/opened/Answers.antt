@@ -13,12 +13,13 @@ returns c =
     let answer = c.first_answer-answer.result in
     let made = opened-is c.args.command.now asked (arc_value c.in_ok-timeline.timeline)
     (arc_value c.in_ok-blocks.blocks)
-    (arc_value c.in_ok-payments.payments) c.new-invoices.result c.new-charges.result.items
+    (arc_value c.in_ok-payments.payments) c.new-invoices.result (arc_value c.in_ok-charges.charges).items
     (entries c.in_ok-kept.kept) answer
     is (c.in_ok-timeline.ensures.ok ∙ c.new-no_timeline.ensures)
     (c.in_ok-blocks.ensures.ok ∙ c.new-no_blocks.ensures)
     (c.in_ok-payments.ensures.ok ∙ c.new-no_payments.ensures) c.new-invoices.ensures
-    c.new-charges.ensures.items
+    (rw c.in_ok-charges.ensures.ok
+    c.new-no_charges.ensures.items)
     c.in_ok-kept.ensures c.first_answer-answer.ensures in
     record {
       first = opened-command c.args.command.now asked is _ answer made;
@@ -31,10 +32,11 @@ invariant_of-result c =
     let answer = c.first_answer-answer.result in
     let made = opened-is c.args.command.now c.args.asked.now (arc_value c.in_ok-timeline.timeline)
     (arc_value c.in_ok-blocks.blocks) (arc_value c.in_ok-payments.payments) c.new-invoices.result
-    c.new-charges.result.items (entries c.in_ok-kept.kept) answer c.requires.opening
+    (arc_value c.in_ok-charges.charges).items (entries c.in_ok-kept.kept) answer c.requires.opening
     (c.in_ok-timeline.ensures.ok ∙ c.new-no_timeline.ensures)
     (c.in_ok-blocks.ensures.ok ∙ c.new-no_blocks.ensures)
     (c.in_ok-payments.ensures.ok ∙ c.new-no_payments.ensures) c.new-invoices.ensures
-    c.new-charges.ensures.items
+    (rw c.in_ok-charges.ensures.ok
+    c.new-no_charges.ensures.items)
     c.in_ok-kept.ensures c.first_answer-answer.ensures in
     opened-sound_book c.args.asked.now _ answer made

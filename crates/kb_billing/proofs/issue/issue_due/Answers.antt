@@ -46,3 +46,6 @@ loop-items-preserved g c =
           (All-append IsItemLine l.lines.items c.in_ok-more.new_lines.items walk.5
           c.in_ok-more.ensures.plain),
     )
+
+pub returns-clause-below : goal.returns-clause-below
+returns-clause-below g c = rw c.in_ok-charges.ensures.ok c.loop-items.invariant.3

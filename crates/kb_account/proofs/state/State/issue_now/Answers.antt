@@ -5,7 +5,7 @@ use Rattle.kb_account.proofs.state.State.issue_now.Goals as goal
 
 pub issue_all-requires-clause-below : goal.issue_all-requires-clause-below
 issue_all-requires-clause-below c =
-    rw (c.items-first.ensures, c.deref.ensures.value) c.requires.sound.below
+    rw (c.items-first.ensures, c.as_slice.ensures.value, c.deref.ensures) c.requires.sound.below
 
 pub returns-then-billed : goal.returns-then-billed
 returns-then-billed c =
