@@ -1,17 +1,16 @@
 //! Settlements of payments, made ready before the gateway is asked.
 ghost use Rattle.std.specs.Prelude.{◌≡◌, ◌<◌, ℕ, List, length, slice_index_or, IfSome, IfOk, OnOk};
 ghost use Rattle.kb_machine.specs.Machines.{MachineValue};
-ghost use Rattle.kb_machine.specs.Plans.{IsIssueIn};
+ghost use Rattle.kb_machine.specs.Plans.{IsDueIn};
 ghost use Rattle.kb_lane.specs.Draining.{settled_by};
 ghost use Rattle.kb_lane.specs.Private.Settlements.{IsReady, AreReady, AddsReady, IsChosen, told_place};
 
 use kb_base::{Failed, NoMemory};
-use kb_billing::Issue;
 use kb_codec::{Command, Settle};
 use kb_days::{Day, Name};
 use kb_gateway::Told;
 use kb_log::payload_of;
-use kb_machine::{Change, Machine};
+use kb_machine::{Change, DueBook, Machine};
 use kb_payment::Status;
 use std::alloc::Global;
 
@@ -41,7 +40,7 @@ impl Settlements {
     ) -> Result<Settlements, NoMemory>
         ensures { IfOk result (AreReady machine.now today account key) }
     {
-        let Some(issue) = machine.issue(alloc, &account) else {
+        let Some(due) = machine.due_book(alloc, &account) else {
             return Err(NoMemory);
         };
         let mut each = Vec::with_capacity(alloc, 4)?;
@@ -52,7 +51,7 @@ impl Settlements {
             today,
             account,
             key,
-            &issue,
+            &due,
             Status::Success,
         )?;
         add(
@@ -62,7 +61,7 @@ impl Settlements {
             today,
             account,
             key,
-            &issue,
+            &due,
             Status::Pending,
         )?;
         add(
@@ -72,7 +71,7 @@ impl Settlements {
             today,
             account,
             key,
-            &issue,
+            &due,
             Status::PaymentFailure,
         )?;
         add(
@@ -82,7 +81,7 @@ impl Settlements {
             today,
             account,
             key,
-            &issue,
+            &due,
             Status::PluginFailure,
         )?;
         Ok(Settlements { each })
@@ -134,13 +133,13 @@ fn add(
     today: Day,
     account: Name,
     key: Name,
-    issue: &Issue,
+    due: &DueBook,
     status: Status,
 ) -> Result<(), NoMemory>
-    requires issue { IsIssueIn machine.now account issue.now }
+    requires due { IsDueIn machine.now account due.now }
     ensures { OnOk result (AddsReady machine.now today account key status each.old.items each.new.items) }
 {
-    match ready_settlement(machine, alloc, today, account, key, issue, status) {
+    match ready_settlement(machine, alloc, today, account, key, due, status) {
         Some(settlement) => Ok(each.push(settlement)?),
         None => Err(NoMemory),
     }
@@ -153,10 +152,10 @@ fn ready_settlement(
     today: Day,
     account: Name,
     key: Name,
-    issue: &Issue,
+    due: &DueBook,
     status: Status,
 ) -> Option<Settlement>
-    requires issue { IsIssueIn machine.now account issue.now }
+    requires due { IsDueIn machine.now account due.now }
     ensures { IfSome result (IsReady machine.now today account key status) }
 {
     let command = Command::Settle(Settle {
@@ -167,7 +166,7 @@ fn ready_settlement(
     let Ok(bytes) = payload_of(alloc, today, &command) else {
         return None;
     };
-    let change = machine.prepare_settlement(alloc, today, &command, account, issue)?;
+    let change = machine.prepare_settlement(alloc, today, &command, account, due)?;
     Some(Settlement {
         command,
         change,

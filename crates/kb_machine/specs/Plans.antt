@@ -1,5 +1,5 @@
 -- What is planned for a command.
-use Rattle.std.specs.Prelude.{ℕ, ◌≡◌, List, IsSome, IfSome, None}
+use Rattle.std.specs.Prelude.{ℕ, ◌≡◌, List, IsSome, None, Some}
 use Rattle.std.specs.FinMap.{entries}
 use Rattle.kb_billing.specs.declared.issue.Issue.{Issue}
 use Rattle.kb_book.specs.Books.{BookValue}
@@ -46,10 +46,15 @@ IsThere machine (changes.Overdue config keys number) = Unit {0}
 IsThere machine (changes.Book account next) =
     IsSome (book_of machine account) × IsBilled machine.texts.world next.book
 
--- what is issued for an account that is there, as it stands
-abbrev pub IsIssueIn : MachineValue → List ℕ → Issue → Type 0
-IsIssueIn machine account issue =
-    IfSome (book_of machine account) (λ (book : BookValue). IsIssueOf machine.texts.world book issue)
+-- a book, and what is issued for it
+pub record DueBook : Type 0 where
+  pub book : BookValue
+  pub issue : Issue
+
+-- this is the book of an account, as it stands, and what is issued for it
+abbrev pub IsDueIn : MachineValue → List ℕ → DueBook → Type 0
+IsDueIn machine account due =
+    (book_of machine account ≡ Some due.book) × IsIssueOf machine.texts.world due.book due.issue
 
 -- so it is of a plan; an account that is opened isn't there
 abbrev pub Fits : MachineValue → Planned → Type 0

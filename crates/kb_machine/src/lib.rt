@@ -9,6 +9,7 @@
 mod account;
 mod books;
 mod change;
+mod due_book;
 mod kept_text;
 mod machine;
 mod texts;
@@ -16,5 +17,6 @@ mod texts;
 pub use account::account_of;
 pub use books::Books;
 pub use change::{Change, Opened, Planned};
+pub use due_book::DueBook;
 pub use kept_text::KeptText;
 pub use machine::{MAX_ACCOUNTS, Machine};

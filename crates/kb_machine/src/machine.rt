@@ -8,13 +8,12 @@ ghost use Rattle.kb_account.specs.Issues.{IsSettlement};
 ghost use Rattle.kb_machine.specs.Judged.{New, refusal_in, lifted};
 ghost use Rattle.kb_machine.specs.Machines.{MachineValue, no_machine, judged, account_judged};
 ghost use Rattle.kb_machine.specs.Machines.{account_of, book_of, with_book, book_judged, is_text};
-ghost use Rattle.kb_machine.specs.Plans.{plan_judged, changed, change_reply, IsThere, IsIssueIn, Fits};
+ghost use Rattle.kb_machine.specs.Plans.{plan_judged, changed, change_reply, IsThere, IsDueIn, Fits};
 ghost use Rattle.kb_machine.specs.Private.KnownBooks.{IsBilledOf};
 
-use crate::{Books, Change, KeptText, Opened, Planned, account_of};
+use crate::{Books, Change, DueBook, KeptText, Opened, Planned, account_of};
 use kb_account::{Book, Prepared, World};
 use kb_base::NoMemory;
-use kb_billing::Issue;
 use kb_book::{Refusal, Unprepared};
 use kb_catalog::Catalog;
 use kb_codec::Command;
@@ -96,37 +95,40 @@ impl Machine {
         }
     }
 
-    /// The items that bring an account up to what is due, as it stands. None comes if it isn't there, or
-    /// memory runs out.
-    pub fn issue(&self, alloc: Global, account: &Name) -> Option<Issue>
-        ensures { IfSome result (IsIssueIn self.now account.now) }
+    /// The book of an account, and the items that bring it up to what is due, as it stands. None comes if it
+    /// isn't there, or memory runs out.
+    pub fn due_book(&self, alloc: Global, account: &Name) -> Option<DueBook<'_>>
+        ensures { IfSome result (IsDueIn self.now account.now) }
     {
         let billed = self.is_billed(account);
-        match self.books.get(account)?.issue(alloc, &self.world, billed) {
-            Ok(issue) => Some(issue),
+        let book = self.books.get(account)?;
+        match book.issue(alloc, &self.world, billed) {
+            Ok(issue) => Some(DueBook { book, issue }),
             Err(_) => None,
         }
     }
 
-    /// What a settlement changes, as `prepare` plans it; the items that are due on its account are at hand.
-    /// None comes if it is refused, or memory runs out.
+    /// What a settlement changes, as `prepare` plans it; the book of its account is at hand, with the items
+    /// that are due. None comes if it is refused, or memory runs out.
     pub fn prepare_settlement(
         &self,
         alloc: Global,
         today: Day,
         command: &Command,
         account: Name,
-        issue: &Issue,
+        due: &DueBook,
     ) -> Option<Change>
         requires settlement { IsSettlement command.now }
         requires named { account ≡ account_of command.now }
-        requires issue { IsIssueIn self.now account issue.now }
+        requires due { IsDueIn self.now account due.now }
         ensures judged { IfSome result (λ change. judged self.now today command.now
             ≡ New (change_reply change) (changed self.now change)) }
         ensures there { IfSome result (IsThere self.now) }
     {
-        let book = self.books.get(&account)?;
-        match book.prepare_settlement(alloc, &self.world, today, command, issue) {
+        match due
+            .book
+            .prepare_settlement(alloc, &self.world, today, command, &due.issue)
+        {
             Ok(next) => Some(Change::Book { account, next }),
             Err(_) => None,
         }
