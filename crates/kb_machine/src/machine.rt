@@ -125,10 +125,8 @@ impl Machine {
             ≡ New (change_reply change) (changed self.now change)) }
         ensures there { IfSome result (IsThere self.now) }
     {
-        match due
-            .book
-            .prepare_settlement(alloc, &self.world, today, command, &due.issue)
-        {
+        let DueBook { book, issue } = due;
+        match book.prepare_settlement(alloc, &self.world, today, command, issue) {
             Ok(next) => Some(Change::Book { account, next }),
             Err(_) => None,
         }
