@@ -182,9 +182,9 @@ fn settled(
         status,
     };
     match settle(alloc, payments, &asked) {
-        Ok((more, by)) => {
-            *payments = more;
-            Ok(if by == moved { "" } else { "another amount" })
+        Ok(done) => {
+            *payments = done.payments;
+            Ok(if done.moved == moved { "" } else { "another amount" })
         }
         Err(fault) => Ok(told(fault)),
     }
