@@ -184,7 +184,11 @@ fn settled(
     match settle(alloc, payments, &asked) {
         Ok(done) => {
             *payments = done.payments;
-            Ok(if done.moved == moved { "" } else { "another amount" })
+            Ok(if done.moved == moved {
+                ""
+            } else {
+                "another amount"
+            })
         }
         Err(fault) => Ok(told(fault)),
     }
