@@ -20,7 +20,8 @@ module _ (world : WorldValue) (book : BookValue) (today : ℕ) (command : Comman
     (settles : IsSettlement command) where
   -- a settlement leaves what is due, so the items that are due with it are those of the book
   pub issue-settled : (edited : BookValue) (issue shared : Issue) → edited ≡ begun world book today command
-      → shared.lines.items ≡ issue.lines.items → (arc_value shared.charges).items ≡ (arc_value issue.charges).items
+      → shared.lines.items ≡ issue.lines.items
+      → (arc_value shared.charges).items ≡ (arc_value issue.charges).items
       → IsIssueOf world book issue → IsIssueOf world edited shared
   issue-settled edited issue shared edit lines charges is =
       issue-left world book edited today command shared (rw settles.1 refl) edit (record {

@@ -5,6 +5,7 @@ ghost use Rattle.std.specs.Arc.{arc_value};
 ghost use Rattle.kb_days.specs.Calendar.{first_day, charged_days};
 ghost use Rattle.kb_billing.specs.Numbers.{AreBelow};
 ghost use Rattle.kb_billing.specs.ItemLines.{IsItemLine};
+ghost use Rattle.kb_billing.specs.IssueValues.{issue_of};
 ghost use Rattle.kb_book.specs.Dues.{facts_of};
 ghost use Rattle.kb_book.specs.Issues as told;
 ghost use Rattle.kb_book.specs.Steps as steps;
@@ -34,10 +35,7 @@ impl State {
         requires below { All (AreBelow (length self.now.invoices.items + 1))
             (begun_of (value_of self.now) begun.now).charges }
         requires room { length self.now.invoices.items < 2 ^ 60 }
-        ensures issue { IfOk result (λ issue. record {
-          lines = issue.lines.items;
-          charges = (arc_value issue.charges).items;
-        }
+        ensures issue { IfOk result (λ issue. issue_of issue
             ≡ steps.issue_over world.now (begun_of (value_of self.now) begun.now) first_day charged_days) }
         ensures few { IfOk result (λ issue. length issue.lines.items ≤ 512 * charged_days) }
         ensures plain { IfOk result (λ issue. All IsItemLine issue.lines.items) }
@@ -87,10 +85,7 @@ pub(crate) fn issue_all(
     requires matched { length charges.now ≡ length facts.now.timeline.subscriptions }
     requires below { All (AreBelow first) charges.now }
     requires room { first ≤ 2 ^ 61 }
-    ensures issue { IfOk result (λ issue. record {
-      lines = issue.lines.items;
-      charges = (arc_value issue.charges).items;
-    }
+    ensures issue { IfOk result (λ issue. issue_of issue
         ≡ told.issue_from facts.now billed.now first_day charged_days first 0 charges.now) }
     ensures few { IfOk result (λ issue. length issue.lines.items ≤ 512 * charged_days) }
     ensures plain { IfOk result (λ issue. All IsItemLine issue.lines.items) }
@@ -113,10 +108,7 @@ fn issue_counted<L: Ledger>(
     requires matched { length charges.now ≡ length facts.now.timeline.subscriptions }
     requires below { All (AreBelow first) charges.now }
     requires room { first ≤ 2 ^ 61 }
-    ensures issue { IfOk result (λ issue. record {
-      lines = issue.lines.items;
-      charges = (arc_value issue.charges).items;
-    }
+    ensures issue { IfOk result (λ issue. issue_of issue
         ≡ told.issue_from facts.now billed.now first_day charged_days first 0 charges.now) }
     ensures few { IfOk result (λ issue. length issue.lines.items ≤ 512 * charged_days) }
     ensures plain { IfOk result (λ issue. All IsItemLine issue.lines.items) }

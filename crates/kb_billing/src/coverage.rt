@@ -1,5 +1,5 @@
 //! Items of one kind of charge, and the cover that they make.
-ghost use Rattle.std.specs.Prelude.{◌≡◌, ◌≤◌, ◌+◌, ◌*◌, ◌^◌, ◌++◌, ℕ, [], length, map, All, IfOk};
+ghost use Rattle.std.specs.Prelude.{◌≡◌, ◌≤◌, ◌+◌, ◌*◌, ◌^◌, ◌++◌, [], length, map, All, IfOk};
 ghost use Rattle.kb_days.specs.Calendar.{first_day, charged_days};
 ghost use Rattle.kb_due.specs.CellStretches.{stretch_of};
 ghost use Rattle.kb_tree.specs.Covers.{ArePieces, due_in, IsBelow};

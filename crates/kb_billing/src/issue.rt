@@ -1,10 +1,10 @@
 //! What is issued for all subscriptions of an account.
 ghost use Rattle.std.specs.Prelude.{◌≡◌, ◌≤◌, ◌+◌, ◌*◌, ◌^◌, length, All, IfOk};
-ghost use Rattle.std.specs.Arc.{arc_value};
 ghost use Rattle.kb_days.specs.Calendar.{first_day, charged_days};
 ghost use Rattle.kb_book.specs.Issues as told;
 ghost use Rattle.kb_billing.specs.Numbers.{AreBelow};
 ghost use Rattle.kb_billing.specs.ItemLines.{IsItemLine};
+ghost use Rattle.kb_billing.specs.IssueValues.{issue_of};
 
 use crate::{SubscriptionCharges, subscription_issue};
 use kb_base::NoMemory;
@@ -16,8 +16,8 @@ use std::alloc::Global;
 use std::sync::Arc;
 use std::sync::ledger::Ledger;
 
-/// What is issued: the lines of the new items, and what is charged to each subscription with them, which books
-/// share.
+/// What is issued: the lines of the new items, and what is charged to each subscription with them. Books
+/// share what is charged.
 #[derive(Drop)]
 pub struct Issue {
     pub lines: Vec<Line>,
@@ -37,13 +37,10 @@ pub fn issue_due<L: Ledger>(
     requires matched { length charges.now ≡ length facts.now.timeline.subscriptions }
     requires below { All (AreBelow first) charges.now }
     requires room { first ≤ 2 ^ 61 }
-    ensures issue { IfOk result (λ issue. record {
-      lines = issue.lines.items;
-      charges = (arc_value issue.charges).items;
-    }
+    ensures issue { IfOk result (λ issue. issue_of issue
         ≡ told.issue_from facts.now billed.now first_day charged_days first 0 charges.now) }
     ensures below { IfOk result (λ issue. All (AreBelow (first + length issue.lines.items))
-        (arc_value issue.charges).items) }
+        (issue_of issue).charges) }
     ensures few { IfOk result (λ issue. length issue.lines.items ≤ 4 * charged_days * length charges.now) }
     ensures plain { IfOk result (λ issue. All IsItemLine issue.lines.items) }
     ensures steps { steps.new ≡ steps.old }

@@ -1,5 +1,5 @@
 //! Items as lines of an invoice.
-ghost use Rattle.std.specs.Prelude.{◌≡◌, ◌≤◌, ◌+◌, ◌*◌, ◌^◌, ◌++◌, length, All, OnOk};
+ghost use Rattle.std.specs.Prelude.{◌≡◌, ◌+◌, ◌*◌, ◌++◌, All, OnOk};
 ghost use Rattle.kb_tree.specs.Items.{cell_at};
 ghost use Rattle.kb_tree.specs.Amounts.{IsPriced};
 ghost use Rattle.kb_book.specs.Issues as told;

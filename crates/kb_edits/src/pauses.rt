@@ -1,6 +1,5 @@
 //! A pause, and its end.
 ghost use Rattle.std.specs.Prelude.{◌≡◌, Some, None, OnOk, IfOk, IfErr};
-ghost use Rattle.kb_days.specs.Names.{IsName};
 ghost use Rattle.kb_terms.specs.Wishes.{asked_day};
 ghost use Rattle.kb_timeline.specs.TimelineEdits.{bundle_named};
 ghost use Rattle.kb_book.specs.Rows.{first_refusal, IsUnprepared};

@@ -21,8 +21,8 @@ pub struct Settled {
     pub moved: i128,
 }
 
-/// The payments with a status of an attempt, and what moves with it. It is refused as `PaymentState` unless the
-/// attempt is open and has another status.
+/// The payments with a status of an attempt, and what moves with it. It is refused as `PaymentState` unless
+/// the attempt is open and has another status.
 pub fn settle(alloc: Global, payments: &Payments, settle: &Settle) -> Result<Settled, Unprepared>
     ensures accepted { OnOk result (first_refusal
         (settle_rows payments.now settle.now.payment settle.now.status) ≡ None) }

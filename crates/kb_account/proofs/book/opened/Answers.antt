@@ -18,8 +18,7 @@ returns c =
     is (c.in_ok-timeline.ensures.ok ∙ c.new-no_timeline.ensures)
     (c.in_ok-blocks.ensures.ok ∙ c.new-no_blocks.ensures)
     (c.in_ok-payments.ensures.ok ∙ c.new-no_payments.ensures) c.new-invoices.ensures
-    (rw c.in_ok-charges.ensures.ok
-    c.new-no_charges.ensures.items)
+    (rw c.in_ok-charges.ensures.ok c.new-no_charges.ensures.items)
     c.in_ok-kept.ensures c.first_answer-answer.ensures in
     record {
       first = opened-command c.args.command.now asked is _ answer made;
@@ -36,7 +35,6 @@ invariant_of-result c =
     (c.in_ok-timeline.ensures.ok ∙ c.new-no_timeline.ensures)
     (c.in_ok-blocks.ensures.ok ∙ c.new-no_blocks.ensures)
     (c.in_ok-payments.ensures.ok ∙ c.new-no_payments.ensures) c.new-invoices.ensures
-    (rw c.in_ok-charges.ensures.ok
-    c.new-no_charges.ensures.items)
+    (rw c.in_ok-charges.ensures.ok c.new-no_charges.ensures.items)
     c.in_ok-kept.ensures c.first_answer-answer.ensures in
     opened-sound_book c.args.asked.now _ answer made

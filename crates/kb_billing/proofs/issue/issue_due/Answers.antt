@@ -12,10 +12,11 @@ subscription_issue-requires-clause-below g c =
     one-below c.args.first (c.args.first + c.len.result) c.loop-items.items-index c.args.charges.now
     c.items-item.result c.loop-items-test.true c.items-item.is (omega arith) c.requires.below
 
--- lines, and more behind them
+-- lines with more behind them are as many as both
 length-made : (all lines more : List Line) → all ≡ lines ++ more → length all ≡ length lines + length more
 length-made all lines more made = rw made (length-append lines more)
 
+-- and are all of items, if both are
 plain-made : (all lines more : List Line) → all ≡ lines ++ more → All IsItemLine lines
     → All IsItemLine more → All IsItemLine all
 plain-made all lines more made one other = rw made (All-append IsItemLine lines more one other)

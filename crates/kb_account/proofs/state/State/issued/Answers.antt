@@ -1,8 +1,8 @@
 -- The book after an accepted command, and that it is sound.
 use Rattle.std.proofs.Common.{◌≡◌, ◌++◌, ◌∙◌, arith}
-use Rattle.std.specs.Arc.{arc_value}
 use Rattle.std.specs.FinMap.{entries}
 use Rattle.kb_days.specs.Calendar.{first_day, charged_days}
+use Rattle.kb_billing.specs.IssueValues.{issue_of}
 use Rattle.kb_book.specs.Steps.{own_lines, accepted_over}
 use Rattle.kb_account.specs.Private.States.{value_of}
 use Rattle.kb_account.specs.Private.Begins.{begun_of}
@@ -52,7 +52,7 @@ is_next c =
     next-made c.args.world.now book (begun_of book c.args.edit)
     (value_of c.next_state-state.result) c.args.today
     c.args.command.now
-    (record { lines = c.args.issue.lines.items; charges = (arc_value c.args.issue.charges).items }) told
+    (issue_of c.args.issue) told
     c.args.edit.moved c.in_ok-invoices.invoices c.answer-answer.result (entries c.in_ok-kept.kept)
     c.requires.sound.noted
     c.requires.sound.invoiced c.requires.begun c.requires.edit.moved c.requires.issue.over
@@ -72,7 +72,7 @@ invariant_of-result c =
     next-sound c.args.world.now book (begun_of book c.args.edit)
     (value_of c.next_state-state.result) c.args.today
     c.args.command.now
-    (record { lines = c.args.issue.lines.items; charges = (arc_value c.args.issue.charges).items }) told
+    (issue_of c.args.issue) told
     c.args.edit.moved c.answer-answer.result c.requires.sound (omega (arith, c.requires.few))
     c.requires.accepted c.requires.begun
     c.requires.edit.moved c.requires.issue.over whole plain few (is_next c)
@@ -84,7 +84,7 @@ returns c =
     next-made c.args.world.now book (begun_of book c.args.edit)
     (value_of c.next_state-state.result) c.args.today
     c.args.command.now
-    (record { lines = c.args.issue.lines.items; charges = (arc_value c.args.issue.charges).items }) told
+    (issue_of c.args.issue) told
     c.args.edit.moved c.in_ok-invoices.invoices c.answer-answer.result (entries c.in_ok-kept.kept)
     c.requires.sound.noted
     c.requires.sound.invoiced c.requires.begun c.requires.edit.moved c.requires.issue.over
