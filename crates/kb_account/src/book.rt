@@ -30,7 +30,6 @@ use std::sync::Arc;
 
 /// The book of one account: its subscriptions, what they are charged, its invoices and payments, and the
 /// answers that it gave. Contracts see it as the definitions do.
-#[derive(Drop)]
 pub struct Book {
     pub(crate) state: State,
 }
@@ -45,6 +44,13 @@ impl Model for Book {
     ghost view = { λ book. value_of book.state };
 
     ghost invariant = { λ book. IsBook (value_of book.state) };
+}
+
+impl Drop for Book {
+    /// Drops all that it holds. No crate above has to show again how that is dropped.
+    fn drop(self) {
+        let Book { state: _state } = self;
+    }
 }
 
 impl Book {
@@ -112,7 +118,7 @@ impl Book {
         ensures book { self.new ≡ next.book }
         ensures answer { result ≡ next.answer }
     {
-        self.state = next.book.state;
+        *self = next.book;
         next.answer
     }
 

@@ -20,9 +20,18 @@ pub const MAX_VERSIONS: u32 = 64;
 
 /// A catalog: valid versions by rising date, at most `MAX_VERSIONS`. An added version shares the earlier
 /// ones.
-#[derive(Debug, Drop)]
+#[derive(Debug)]
 pub struct Catalog {
     versions: Vec<Arc<Valid>>,
+}
+
+impl Drop for Catalog {
+    /// Drops all that it holds. No crate above has to show again how that is dropped.
+    fn drop(self) {
+        let Catalog {
+            versions: _versions,
+        } = self;
+    }
 }
 
 impl Model for Catalog {

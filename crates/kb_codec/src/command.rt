@@ -32,7 +32,6 @@ use kb_payment::Status;
 /// | 18 | `Auto` |
 /// | 19 | `Settle` |
 /// | 20 | `Overdue` |
-#[derive(Drop)]
 pub enum Command {
     Catalog(Catalog),
     OverdueRules(OverdueRules),
@@ -54,6 +53,34 @@ pub enum Command {
     Auto(Auto),
     Settle(Settle),
     Overdue(Overdue),
+}
+
+impl Drop for Command {
+    /// Drops all that it holds. No crate above has to show again how that is dropped.
+    fn drop(self) {
+        match self {
+            Command::Catalog(_catalog) => {}
+            Command::OverdueRules(_overdue_rules) => {}
+            Command::OpenAccount(_open_account) => {}
+            Command::Create(_create) => {}
+            Command::Change(_change) => {}
+            Command::Cancel(_cancel) => {}
+            Command::Uncancel(_uncancel) => {}
+            Command::Pause(_pause) => {}
+            Command::Resume(_resume) => {}
+            Command::Block(_block) => {}
+            Command::Bill(_bill) => {}
+            Command::Charge(_charge) => {}
+            Command::Credit(_credit) => {}
+            Command::Pay(_pay) => {}
+            Command::Refund(_refund) => {}
+            Command::Chargeback(_chargeback) => {}
+            Command::Autopay(_autopay) => {}
+            Command::Auto(_auto) => {}
+            Command::Settle(_settle) => {}
+            Command::Overdue(_overdue) => {}
+        }
+    }
 }
 
 /// A catalog text is handed in.

@@ -28,7 +28,6 @@ use std::marker::Model;
 pub const MAX_ACCOUNTS: usize = 100_000;
 
 /// The texts of a shop and the books of its accounts. Contracts see it as the definitions do.
-#[derive(Drop)]
 pub struct Machine {
     pub(crate) world: World,
     pub(crate) catalogs: SharedMap<Name, KeptText>,
@@ -56,6 +55,19 @@ impl Model for Machine {
     } };
 
     ghost invariant = { λ machine. IsKnown machine.world machine.books machine.billed };
+}
+
+impl Drop for Machine {
+    /// Drops all that it holds. No crate above has to show again how that is dropped.
+    fn drop(self) {
+        let Machine {
+            world: _world,
+            catalogs: _catalogs,
+            overdues: _overdues,
+            books: _books,
+            billed: _billed,
+        } = self;
+    }
 }
 
 impl Machine {
