@@ -6,11 +6,12 @@ use Rattle.kb_codec.specs.declared.command.Command.{Command}
 use Rattle.kb_reply.specs.declared.step.Step.{Step}
 use Rattle.kb_reply.specs.declared.step.Step.TheVariants as steps
 use Rattle.kb_log.specs.Entries.{Entry}
-use Rattle.kb_lane.specs.declared.work.Work.{Work}
-use Rattle.kb_lane.specs.declared.work.Work.TheVariants.{Ask, Check}
+use Rattle.kb_works.specs.declared.work.Work.{Work}
+use Rattle.kb_works.specs.declared.work.Work.TheVariants.{Ask, Check}
 use Rattle.kb_lane.specs.Lanes.{LaneValue, StandsThroughout, machine_of}
 use Rattle.kb_lane.specs.Going.{GoesWell}
-use Rattle.kb_lane.specs.Draining.{due_of, settled_by, with_outbox, works_after, IsWritten, Looks, Asks}
+use Rattle.kb_works.specs.Orders.{settled_by}
+use Rattle.kb_lane.specs.Draining.{due_of, with_outbox, works_after, IsWritten, Looks, Asks}
 use Rattle.kb_lane.specs.Draining.{Orders}
 use Rattle.kb_lane.proofs.Going.{well_none, well_writes, well_accepts}
 use Rattle.kb_bills.specs.Drains.{HandlesFront, EndsAfter}

@@ -2,8 +2,8 @@
 use Rattle.std.proofs.Common.{ℕ, ◌+◌, ◌*◌, ◌≤◌, List, [], ◌∷◌, length, sum_by, arith}
 use Rattle.std.proofs.lemmas.List.Sums.{sum_by-cons}
 use Rattle.kb_versions.proofs.BoundedBooks.{replayed_work_is_bounded}
-use Rattle.kb_lane.specs.declared.work.Work.{Work}
-use Rattle.kb_lane.specs.declared.work.Work.TheVariants.{Ask, Check}
+use Rattle.kb_works.specs.declared.work.Work.{Work}
+use Rattle.kb_works.specs.declared.work.Work.TheVariants.{Ask, Check}
 use Rattle.kb_lane.specs.LaneWork.{entry_work, is_named}
 use Rattle.kb_bills.specs.WorkBounds.{LaneWorkIsBounded}
 

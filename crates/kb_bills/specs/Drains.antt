@@ -4,8 +4,8 @@ use Rattle.kb_gateway.specs.declared.order.Asked.{Asked}
 use Rattle.kb_gateway.specs.declared.told.Saying.{Saying}
 use Rattle.kb_reply.specs.declared.step.Step.{Step}
 use Rattle.kb_reply.specs.declared.step.Step.TheVariants as steps
-use Rattle.kb_lane.specs.declared.work.Work.{Work}
-use Rattle.kb_lane.specs.declared.work.Work.TheVariants.{Ask, Check}
+use Rattle.kb_works.specs.declared.work.Work.{Work}
+use Rattle.kb_works.specs.declared.work.Work.TheVariants.{Ask, Check}
 use Rattle.kb_lane.specs.Lanes.{LaneValue, machine_of}
 use Rattle.kb_lane.specs.Draining.{due_of, Looks, Orders}
 use Rattle.kb_lane.specs.LaneWork.{lane_work}

@@ -4,7 +4,7 @@ use Rattle.kb_drains.specs.OwnWork.{all_work}
 use Rattle.kb_drains.specs.NamedWork.{named_accounts, named_invoices}
 use Rattle.kb_log.specs.Entries.{History}
 use Rattle.kb_machine.specs.Histories.{replay}
-use Rattle.kb_lane.specs.declared.work.Work.{Work}
+use Rattle.kb_works.specs.declared.work.Work.{Work}
 use Rattle.kb_lane.specs.LaneWork.{entry_work, is_named}
 
 -- The `lane_work` of a lane with this outbox and this history: at most two steps for each entry, and for each

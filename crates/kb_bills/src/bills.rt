@@ -1,11 +1,11 @@
 //! The bills of a lane's accounts.
-ghost use Rattle.std.specs.Prelude.{◌≡◌, ◌⊎◌, ◌<◌, ◌^◌, List, IfOk, IfSome, length};
+ghost use Rattle.std.specs.Prelude.{◌≡◌, ◌⊎◌, ◌<◌, ◌^◌, List, IfOk, length};
 ghost use Rattle.kb_days.specs.Names.{IsName};
 ghost use Rattle.kb_reply.specs.declared.step.Step.TheVariants as steps;
 ghost use Rattle.kb_lane.specs.Going.{GoesWell};
-ghost use Rattle.kb_lane.specs.Lanes.{StaysItself, machine_of};
+ghost use Rattle.kb_lane.specs.Lanes.{StaysItself};
 ghost use Rattle.kb_lane.specs.Replies.{Performs};
-ghost use Rattle.kb_bills.specs.Bills.{BillsAccount, BillsEach, BillsLane, account_names, bill_key, bill_of};
+ghost use Rattle.kb_bills.specs.Bills.{BillsAccount, BillsEach, BillsLane, bill_key, bill_of};
 ghost use Rattle.kb_bills.specs.Tallies.{Answer, of_step, tally_of};
 
 use crate::Tally;

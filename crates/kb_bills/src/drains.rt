@@ -1,5 +1,5 @@
 //! The outbox of a lane, handled to its end.
-ghost use Rattle.std.specs.Prelude.{◌≡◌, ◌≤◌, ◌<◌, ℕ};
+ghost use Rattle.std.specs.Prelude.{◌≡◌, ◌<◌};
 ghost use Rattle.kb_reply.specs.declared.step.Step.TheVariants as steps;
 ghost use Rattle.kb_lane.specs.LaneWork.{lane_work};
 ghost use Rattle.kb_lane.specs.Lanes.{StaysItself};

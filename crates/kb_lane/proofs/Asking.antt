@@ -24,9 +24,9 @@ use Rattle.kb_attempts.proofs.StayingAttempts.{attempts_stay}
 use Rattle.kb_attempts.proofs.SettledAttempts.{settlements_settle}
 use Rattle.kb_attempts.proofs.BegunAttempts.{attempts_begin, begun_keys_are_free}
 use Rattle.kb_lane.proofs.Pairs.{pairs_append, pairs_head, pairs_back}
-use Rattle.kb_lane.specs.declared.work.Work.{Work}
-use Rattle.kb_lane.specs.declared.work.Work.TheVariants.{Ask, Check}
-use Rattle.kb_lane.specs.Works.{work_of}
+use Rattle.kb_works.specs.declared.work.Work.{Work}
+use Rattle.kb_works.specs.declared.work.Work.TheVariants.{Ask, Check}
+use Rattle.kb_works.specs.Works.{work_of}
 use Rattle.kb_lane.specs.Asking.{asked_for, asks_in, attempt_asked, AreApart, HaveAttempts, IsBegun, AsksOnce}
 use Rattle.kb_lane.specs.Asking.{WasAskedOnce, EndsWith}
 

@@ -1,6 +1,6 @@
 -- Commands that settle no payment.
-use Rattle.std.proofs.Common.{◌≡◌, ℕ, Bool, true, false, true≢false, List, Option, Some, None, if◌then◌else◌}
-use Rattle.std.proofs.Common.{refl, sym}
+use Rattle.std.proofs.Common.{◌≡◌, ℕ, Bool, true, false, List, Option, Some, None, if◌then◌else◌}
+use Rattle.std.proofs.Common.{refl}
 use Rattle.std.proofs.lemmas.Option.{none-some}
 use Rattle.kb_codec.specs.declared.command.Command.{Command}
 use Rattle.kb_codec.specs.declared.command.Command.TheVariants as kinds
@@ -9,9 +9,8 @@ use Rattle.kb_book.specs.Books.{BookValue}
 use Rattle.kb_book.specs.BlockRows.{has_all_states}
 use Rattle.kb_book.specs.Inner.{is_transition_due, invoice_due}
 use Rattle.kb_laws.specs.NextDues.{transition_of, payment_of, next_due}
-use Rattle.kb_machine.specs.Machines.{is_callers}
 use Rattle.kb_attempts.specs.Attempts.{settles}
-use Rattle.kb_lane.specs.declared.work.Work.{Work}
+use Rattle.kb_works.specs.declared.work.Work.{Work}
 use Rattle.kb_lane.specs.Private.Runs.{SettlesNone}
 
 -- what an account asks for by itself settles none

@@ -1,5 +1,5 @@
 -- What each step does to a log, and what a run of steps does.
-use Rattle.std.proofs.Common.{◌≡◌, ℕ, ◌≤◌, ◌⊎◌, ◌&&◌, ◌++◌, arith, inl, inr, Bool, true, false, true≢false}
+use Rattle.std.proofs.Common.{◌≡◌, ℕ, ◌⊎◌, ◌&&◌, arith, inl, inr, Bool, true, false, true≢false}
 use Rattle.std.proofs.Common.{List, [], ◌∷◌, Option, None, Some, refl, sym, ap, subst, ◌∙◌}
 use Rattle.std.proofs.lemmas.Bool.{and_parts, cases_Bool}
 use Rattle.std.proofs.lemmas.List.{append-nil}
@@ -14,7 +14,7 @@ use Rattle.kb_machine.specs.Judged.{Judged, is_new}
 use Rattle.kb_machine.specs.Machines.{MachineValue, judged}
 use Rattle.kb_lane.specs.Lanes.{LaneValue, StandsThroughout, StandsWithin, StaysItself, machine_of}
 use Rattle.kb_lane.specs.Going.{GoesWell}
-use Rattle.kb_lane.specs.Replies.{Takes, IsMarked, IsReply, Performs, is_accepted, is_taken}
+use Rattle.kb_lane.specs.Replies.{Takes, IsMarked, Performs, is_accepted, is_taken}
 use Rattle.kb_lane.specs.Draining.{Writes, Accepts, IsWritten}
 use Rattle.kb_lane.proofs.Within.{past_none, past_one, past_then, within_mark, within_past, within_then}
 use Rattle.kb_lane.proofs.Within.{goes_on}

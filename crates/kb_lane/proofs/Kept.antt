@@ -18,12 +18,12 @@ use Rattle.kb_machine.specs.Machines.{MachineValue, no_machine, judged}
 use Rattle.kb_machine.specs.Histories.{replay, entry_after, AreNewFrom}
 use Rattle.kb_machine.proofs.Replays.{replay_new, fresh_new}
 use Rattle.kb_attempts.proofs.KeyedBooks.{replays_are_keyed}
-use Rattle.kb_lane.specs.declared.work.Work.{Work}
-use Rattle.kb_lane.specs.Works.{work_of}
-use Rattle.kb_lane.specs.declared.work.Work.TheVariants.{Ask, Check}
+use Rattle.kb_works.specs.declared.work.Work.{Work}
+use Rattle.kb_works.specs.Works.{work_of}
+use Rattle.kb_works.specs.declared.work.Work.TheVariants.{Ask, Check}
 use Rattle.kb_lane.specs.Asking.{asked_for, asks_in, attempt_asked, IsBegun}
 use Rattle.kb_lane.specs.Lanes.{LaneValue, IsLane, machine_of, opened_of}
-use Rattle.kb_lane.specs.Draining.{order_of}
+use Rattle.kb_works.specs.Orders.{order_of}
 use Rattle.kb_lane.specs.Private.Runs.{SettlesNone}
 use Rattle.kb_lane.proofs.Settling.{order_there}
 use Rattle.kb_lane.proofs.Asking.{asks_grow, asks_append, none_asked, ends_anyhow, asked_once, ends_note}

@@ -1,6 +1,6 @@
 -- A step that is done takes work off a lane.
 use Rattle.std.proofs.Common.{◌≡◌, ℕ, ◌+◌, ◌≤◌, ◌<◌, ◌^◌, arith, Bool, true, false, true≢false, ◌||◌}
-use Rattle.std.proofs.Common.{bytes_eq, List, [], ◌∷◌, ◌++◌}
+use Rattle.std.proofs.Common.{bytes_eq, List, ◌∷◌, ◌++◌}
 use Rattle.std.proofs.Common.{length, sum_by, Option, None, Some, Result, Ok, Err, refl, sym, ap, subst, ◌∙◌}
 use Rattle.std.proofs.lemmas.Option.{none-some}
 use Rattle.std.proofs.lemmas.List.Folds.{list_any-append}
@@ -32,12 +32,13 @@ use Rattle.kb_drains.proofs.NamedSums.{fewer_names_have_no_more}
 use Rattle.kb_drains.proofs.SettlementWork.{settlements_add_no_work}
 use Rattle.kb_drains.proofs.TakenWork.{due_commands_take_work}
 use Rattle.kb_machine.proofs.Replays.{replay_more}
-use Rattle.kb_lane.specs.declared.work.Work.{Work}
-use Rattle.kb_lane.specs.declared.work.Work.TheVariants.{Ask, Check}
-use Rattle.kb_lane.specs.Works.{work_of}
+use Rattle.kb_works.specs.declared.work.Work.{Work}
+use Rattle.kb_works.specs.declared.work.Work.TheVariants.{Ask, Check}
+use Rattle.kb_works.specs.Works.{work_of}
 use Rattle.kb_lane.specs.Lanes.{LaneValue, machine_of}
 use Rattle.kb_lane.specs.Replies.{Takes}
-use Rattle.kb_lane.specs.Draining.{due_in, due_of, settled_by, with_outbox, Looks, Orders, Asks, Accepts}
+use Rattle.kb_works.specs.Orders.{settled_by}
+use Rattle.kb_lane.specs.Draining.{due_in, due_of, with_outbox, Looks, Orders, Asks, Accepts}
 use Rattle.kb_lane.specs.LaneWork.{entry_work, account_in, is_named, lane_work}
 
 -- what a command leaves to do takes as many steps

@@ -23,10 +23,10 @@ use Rattle.kb_book.specs.Books.{BookValue}
 use Rattle.kb_book.specs.PaymentRows.{same_status}
 use Rattle.kb_reply.specs.declared.step.Step.{Step}
 use Rattle.kb_reply.specs.declared.step.Step.TheVariants as steps
-use Rattle.kb_log.specs.Entries.{Entry, History}
-use Rattle.kb_machine.specs.Judged.{Judged, New, Again, Refused, is_new, after_judged}
+use Rattle.kb_log.specs.Entries.{Entry}
+use Rattle.kb_machine.specs.Judged.{is_new}
 use Rattle.kb_machine.specs.Machines.{MachineValue, judged, book_of}
-use Rattle.kb_machine.specs.Histories.{replay, entry_after}
+use Rattle.kb_machine.specs.Histories.{replay}
 use Rattle.kb_attempts.proofs.SettledAttempts.{settlements_leave_others}
 use Rattle.kb_lane.specs.Asking.{asked_for, asks_in, attempt_asked, AreApart}
 use Rattle.kb_lane.specs.Lanes.{LaneValue, machine_of}

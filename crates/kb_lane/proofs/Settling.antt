@@ -1,5 +1,5 @@
--- What is known of the settlement that was chosen, and what a step leaves of a lane whose gateway was asked.
-use Rattle.std.proofs.Common.{ℕ, ◌≡◌, List, [], ◌∷◌, length, Option, None, Some, IsSome, Result, Ok, Err}
+-- What a step leaves of a lane whose gateway was asked.
+use Rattle.std.proofs.Common.{ℕ, ◌≡◌, List, length, Option, None, Some, IsSome, Result, Ok, Err}
 use Rattle.std.proofs.Common.{false, true≢false, refl, sym, ap, subst, ◌∙◌}
 use Rattle.kb_base.specs.declared.fault.Failed.{Failed}
 use Rattle.std.proofs.lemmas.Option.{none-some}
@@ -21,58 +21,17 @@ use Rattle.kb_journal.specs.declared.fault.AppendFault.TheVariants as fault
 use Rattle.kb_reply.specs.declared.step.Step.{Step}
 use Rattle.kb_reply.specs.declared.step.Step.TheVariants as steps
 use Rattle.kb_log.specs.Entries.{Entry, payload}
-use Rattle.kb_log.specs.Logs.{LogValue, Appends}
+use Rattle.kb_log.specs.Logs.{Appends}
 use Rattle.kb_machine.specs.Machines.{MachineValue, book_of}
-use Rattle.kb_lane.specs.declared.settlement.Settlement.{Settlement}
-use Rattle.kb_lane.specs.declared.work.Work.{Work}
-use Rattle.kb_lane.specs.declared.work.Work.TheVariants.{Check}
+use Rattle.kb_works.specs.declared.work.Work.{Work}
 use Rattle.kb_lane.specs.Lanes.{LaneValue}
 use Rattle.kb_attempts.specs.Attempts.{attempt_in}
 use Rattle.kb_lane.specs.Asking.{asked_for, attempt_asked}
-use Rattle.kb_lane.specs.Works.{work_of}
-use Rattle.kb_lane.specs.Draining.{order_for, order_in, order_of, settled_by, with_outbox, Writes, Accepts}
-use Rattle.kb_lane.specs.Draining.{Asks, Orders}
-use Rattle.kb_lane.specs.Private.Settlements.{IsChosen, IsReadyOf, IsBusy, fault_step}
-use Rattle.kb_lane.specs.Private.Runs.{SettlesNone}
-
--- a settlement that was chosen is the one that there is
-pub chosen_command : (machine : MachineValue) (today : ℕ) (command : Option Command) (ready : Settlement)
-    → IsChosen machine today command (Some ready) → command ≡ Some ready.command
-chosen_command machine today None ready chosen = absurd chosen
-chosen_command machine today (Some command) ready chosen = ap (λ it. Some it) (sym chosen.is_it)
-
-pub chosen_ready : (machine : MachineValue) (today : ℕ) (command : Option Command) (ready : Settlement)
-    → IsChosen machine today command (Some ready) → IsReadyOf machine today ready.command ready
-chosen_ready machine today None ready chosen = absurd chosen
-chosen_ready machine today (Some command) ready chosen =
-    let P : Command → Type 0 = λ it. IsReadyOf machine today it ready in subst P (sym chosen.is_it) chosen
-
-pub unchosen_command : (machine : MachineValue) (today : ℕ) (command : Option Command)
-    → IsChosen machine today command None → command ≡ None
-unchosen_command machine today None chosen = refl
-unchosen_command machine today (Some command) chosen = absurd chosen
-
--- what a settlement leaves to do is to look at its account
-pub settled_check : (today : ℕ) (account key : List ℕ) (answer : Result Told Failed) (command : Command)
-    → settled_by account key answer ≡ Some command → work_of (today, command) ≡ Check account ∷ []
-settled_check today account key (Ok told.Processed) command is =
-    let same : kinds.Settle (record { account = account; payment = key; status = status.Success }) ≡ command =
-    cc in
-    rw (← same) refl
-settled_check today account key (Ok told.Pending) command is =
-    let same : kinds.Settle (record { account = account; payment = key; status = status.Pending }) ≡ command =
-    cc in
-    rw (← same) refl
-settled_check today account key (Ok told.Error) command is =
-    let same : kinds.Settle (record { account = account; payment = key; status = status.PaymentFailure })
-    ≡ command = cc in
-    rw (← same) refl
-settled_check today account key (Ok told.Canceled) command is =
-    let same : kinds.Settle (record { account = account; payment = key; status = status.PluginFailure })
-    ≡ command = cc in
-    rw (← same) refl
-settled_check today account key (Ok told.Undefined) command is = absurd (cc)
-settled_check today account key (Err failed) command is = absurd (cc)
+use Rattle.kb_works.specs.Orders.{order_for, order_in, order_of, settled_by}
+use Rattle.kb_works.specs.Settlements.{fault_step}
+use Rattle.kb_works.proofs.Settled.{some-same}
+use Rattle.kb_lane.specs.Draining.{with_outbox, Writes, Accepts, Asks, Orders}
+use Rattle.kb_lane.specs.Private.Runs.{SettlesNone, IsBusy}
 
 -- of the lane before, log and outbox alone count
 pub writes_from : {D G : Type 0} (fault_count : D → ℕ) (old other new : LaneValue D G)
@@ -128,9 +87,6 @@ module _ {D G : Type 0} (fault_count : D → ℕ) (asked : G → Option (List As
   asks_orders (steps.Full commands size) busy asks = asks
   asks_orders steps.NoMemory busy asks = absurd busy
 
-some-same : {X : Type 0} {one other : X} → Some one ≡ Some other → one ≡ other
-some-same is = cc
-
 -- the order of a payment is noted as that payment
 pub order_asked : (machine : MachineValue) (account key : List ℕ) (order : Order)
     → order_of machine account key ≡ Some order → asked_of order ≡ asked_for (account, key)
@@ -183,13 +139,6 @@ settled_frees account key (Ok told.Undefined) command later is frees = absurd (n
 settled_frees account key (Err failed) command later is frees = absurd (none-some command is)
 
 -- what a failed append leaves
-module _ {D : Type 0} (fault_count : D → ℕ) (old new : LogValue D) (entry : Entry) (size : ℕ) where
-  pub failed_history : (fault : AppendFault) → Appends fault_count old new entry size (Err fault)
-      → new.history ≡ old.history
-  failed_history (fault.Stopped count) appends = ap (λ log. log.history) appends.2
-  failed_history (fault.Full commands bytes) appends = ap (λ log. log.history) appends.4
-  failed_history fault.DiskFault appends = appends.2
-
 pub failed_writes : {D G : Type 0} (fault_count : D → ℕ) (old new : LaneValue D G) (entry : Entry)
     (fault : AppendFault) → Appends fault_count old.log new.log entry (length (payload entry)) (Err fault)
     → new.outbox ≡ old.outbox → Writes fault_count old new entry (fault_step fault)
@@ -205,8 +154,3 @@ failed_writes fault_count old new entry fault.DiskFault appends same = record {
   stopped = appends.1;
   cause = appends.4;
 }
-
-pub fault_ready : (fault : AppendFault) → fault_step fault ≡ steps.NoMemory → ⊥
-fault_ready (fault.Stopped count) same = absurd (cc)
-fault_ready (fault.Full commands bytes) same = absurd (cc)
-fault_ready fault.DiskFault same = absurd (cc)

@@ -13,8 +13,8 @@ use Rattle.kb_payment.specs.PaymentSums.{open_keys, IsOpenKey}
 use Rattle.kb_gateway.specs.declared.order.Asked.{Asked}
 use Rattle.kb_book.specs.Books.{BookValue}
 use Rattle.kb_machine.specs.Machines.{MachineValue, book_of}
-use Rattle.kb_lane.specs.declared.work.Work.{Work}
-use Rattle.kb_lane.specs.declared.work.Work.TheVariants.{Ask, Check}
+use Rattle.kb_works.specs.declared.work.Work.{Work}
+use Rattle.kb_works.specs.declared.work.Work.TheVariants.{Ask, Check}
 use Rattle.kb_lane.specs.Asking.{asked_for, asks_in, attempt_asked, AreApart}
 use Rattle.kb_lane.specs.Lanes.{LaneValue, machine_of}
 use Rattle.kb_lane.specs.LookingUp.{open_in, open_payments, to_look_up, is_ask}

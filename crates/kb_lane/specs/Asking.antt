@@ -7,8 +7,8 @@ use Rattle.kb_payment.specs.declared.attempt.Status.TheVariants.{Unknown}
 use Rattle.kb_gateway.specs.declared.order.Asked.{Asked}
 use Rattle.kb_machine.specs.Machines.{MachineValue}
 use Rattle.kb_attempts.specs.Attempts.{attempt_at}
-use Rattle.kb_lane.specs.declared.work.Work.{Work}
-use Rattle.kb_lane.specs.declared.work.Work.TheVariants.{Ask, Check}
+use Rattle.kb_works.specs.declared.work.Work.{Work}
+use Rattle.kb_works.specs.declared.work.Work.TheVariants.{Ask, Check}
 
 -- a payment that was asked for: of an account, by its key
 abbrev pub asked_for : List ℕ × List ℕ → Asked

@@ -8,7 +8,7 @@ use Rattle.kb_log.specs.Entries.{Entry, History, payload, payloads}
 use Rattle.kb_log.specs.Logs.{LogValue}
 use Rattle.kb_machine.specs.Machines.{MachineValue, no_machine}
 use Rattle.kb_machine.specs.Histories.{AreNewFrom, replay}
-use Rattle.kb_lane.specs.declared.work.Work.{Work}
+use Rattle.kb_works.specs.declared.work.Work.{Work}
 use Rattle.kb_lane.specs.Asking.{asks_in, AsksOnce, EndsWith}
 
 -- A lane: what it is yet to do, and what it asked its gateway for since it was opened. Its accounts and texts

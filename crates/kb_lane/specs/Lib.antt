@@ -1,4 +1,3 @@
-pub mod Works
 pub mod Asking
 pub mod Lanes
 pub mod Going

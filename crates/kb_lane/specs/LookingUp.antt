@@ -24,11 +24,12 @@ use Rattle.kb_book.specs.PaymentRows.{same_status}
 use Rattle.kb_reply.specs.declared.step.Step.{Step}
 use Rattle.kb_reply.specs.declared.step.Step.TheVariants as steps
 use Rattle.kb_machine.specs.Machines.{MachineValue, book_of}
-use Rattle.kb_lane.specs.declared.work.Work.{Work}
-use Rattle.kb_lane.specs.declared.work.Work.TheVariants.{Ask, Check}
+use Rattle.kb_works.specs.declared.work.Work.{Work}
+use Rattle.kb_works.specs.declared.work.Work.TheVariants.{Ask, Check}
 use Rattle.kb_lane.specs.Asking.{asked_for, attempt_asked}
 use Rattle.kb_lane.specs.Lanes.{LaneValue, machine_of}
-use Rattle.kb_lane.specs.Draining.{order_of, Accepts}
+use Rattle.kb_works.specs.Orders.{order_of}
+use Rattle.kb_lane.specs.Draining.{Accepts}
 
 -- the payments of an account whose attempts are open, by their keys
 abbrev pub open_in : List ℕ → Option BookValue → List Asked

@@ -10,7 +10,7 @@ use Rattle.kb_journal.specs.Keeping.{IsFull}
 use Rattle.kb_codec.specs.declared.command.Command.{Command}
 use Rattle.kb_machine.specs.Machines.{MachineValue, judged, reply_of}
 use Rattle.kb_lane.specs.Lanes.{LaneValue, machine_of}
-use Rattle.kb_lane.specs.Works.{work_of}
+use Rattle.kb_works.specs.Works.{work_of}
 
 -- The reply is the machine's, unless memory ran out; or the command is new, and isn't written down.
 abbrev pub IsReply : Judged LaneReply MachineValue → LaneReply → Type 0

@@ -1,9 +1,9 @@
 //! Commands that a lane performs.
 ghost use Rattle.std.specs.Prelude.{◌≡◌, ◌≤◌, ◌+◌, ◌++◌, ◌∷◌, [], ℕ, true, false, length};
-ghost use Rattle.std.specs.Prelude.{IsTrue, IfOk, IfErr, OnOk, OnErr, None};
+ghost use Rattle.std.specs.Prelude.{IfOk, IfErr, OnOk, OnErr, None};
 ghost use Rattle.std.specs.Option.{option_to_list};
 ghost use Rattle.std.specs.VecDeque.{deque_items, deque_len, deque_capacity};
-ghost use Rattle.kb_log.specs.Entries.{payload, payloads};
+ghost use Rattle.kb_log.specs.Entries.{payload};
 ghost use Rattle.kb_log.specs.Logs.{MayAppend};
 ghost use Rattle.kb_journal.specs.Keeping.{IsFull};
 ghost use Rattle.kb_book.specs.declared.refusal.Refusal.{Refusal};
@@ -12,12 +12,11 @@ ghost use Rattle.kb_machine.specs.Judged.{New, is_new};
 ghost use Rattle.kb_machine.specs.Machines.{judged, reply_of, with_book, book_of, is_callers};
 ghost use Rattle.kb_machine.specs.Plans.{changed, change_reply, plan_judged, IsThere, Fits};
 ghost use Rattle.kb_lane.specs.Lanes.{StandsThroughout, StaysItself, machine_of};
-ghost use Rattle.kb_lane.specs.Works.{work_of};
+ghost use Rattle.kb_works.specs.Works.{work_of};
 ghost use Rattle.kb_lane.specs.Replies.{IsReply, is_accepted, is_taken, Takes, IsMarked};
 ghost use Rattle.kb_lane.specs.Private.Unwritten.{IsUnwritten, HasWritten, unwritten_reply};
 ghost use Rattle.kb_lane.specs.Private.Runs.{SettlesNone};
 
-use crate::works::{ask_of, check_of};
 use crate::{Lane, LaneReply, Work};
 use kb_book::Unprepared;
 use kb_codec::Command;
@@ -27,6 +26,7 @@ use kb_gateway::Gateway;
 use kb_journal::AppendFault;
 use kb_log::payload_of;
 use kb_machine::{Change, Opened, Planned};
+use kb_works::{ask_of, check_of};
 use std::alloc::Global;
 use std::collections::VecDeque;
 

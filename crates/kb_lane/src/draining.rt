@@ -1,34 +1,27 @@
 //! What a lane does by itself.
 ghost use Rattle.std.specs.Prelude.{◌≡◌, ◌≤◌, ◌<◌, ◌^◌, ◌↔◌, ◌∷◌, ◌++◌, [], drop, ℕ, Some, Err, List};
-ghost use Rattle.std.specs.Prelude.{true, false, length, IsTrue, IsSome, IfSome, OnOk, OnErr};
+ghost use Rattle.std.specs.Prelude.{true, false, length, IsSome, IfSome};
 ghost use Rattle.std.specs.Option.{option_to_list};
 ghost use Rattle.kb_days.specs.Calendar.{last_day};
-ghost use Rattle.kb_disk.specs.Moments.{AtEachMoment};
-ghost use Rattle.kb_journal.specs.Format.{IsWithOrWithout};
-ghost use Rattle.kb_log.specs.Entries.{Entry, payload, payloads};
-ghost use Rattle.kb_log.specs.Logs.{Appends};
+ghost use Rattle.kb_log.specs.Entries.{Entry};
 ghost use Rattle.kb_reply.specs.declared.step.Step.TheVariants as steps;
 ghost use Rattle.kb_machine.specs.Judged.{is_new};
 ghost use Rattle.kb_machine.specs.Machines.{judged};
-ghost use Rattle.kb_machine.specs.Plans.{changed};
-ghost use Rattle.kb_lane.specs.declared.work.Work.{Work as AnyWork};
-ghost use Rattle.kb_lane.specs.declared.work.Work.TheVariants as works;
+ghost use Rattle.kb_works.specs.declared.work.Work.{Work as AnyWork};
+ghost use Rattle.kb_works.specs.declared.work.Work.TheVariants as works;
+ghost use Rattle.kb_works.specs.Orders.{order_of};
+ghost use Rattle.kb_works.specs.Settlements.{AreReady};
 ghost use Rattle.kb_lane.specs.Lanes.{StandsThroughout, StaysItself, machine_of};
 ghost use Rattle.kb_lane.specs.LaneWork.{lane_work};
-ghost use Rattle.kb_lane.specs.Draining.{due_of, order_of, Looks, Asks};
-ghost use Rattle.kb_lane.specs.Draining.{Orders, Writes, IsWritten};
-ghost use Rattle.kb_lane.specs.Private.Settlements.{IsReadyOf, AreReady, IsBusy, fault_step};
-ghost use Rattle.kb_lane.specs.Private.Runs.{SettlesNone};
+ghost use Rattle.kb_lane.specs.Draining.{due_of, Looks, Asks, Orders, Writes, IsWritten};
+ghost use Rattle.kb_lane.specs.Private.Runs.{SettlesNone, IsBusy};
 
-use crate::settlement::{Settlement, Settlements};
 use crate::{Lane, LaneReply, Step, Work};
 use kb_codec::Command;
 use kb_days::{Day, Name};
 use kb_disk::Disk;
-use kb_gateway::{Gateway, Order, gateway_id};
-use kb_journal::AppendFault;
-use kb_log::Log;
-use kb_machine::{Change, Machine};
+use kb_gateway::{Gateway, Order};
+use kb_works::{Settlements, order_of, stopped_by, write};
 use std::alloc::Global;
 
 impl<D: Disk, G: Gateway + Drop> Lane<D, G> {
@@ -178,7 +171,7 @@ impl<D: Disk, G: Gateway + Drop> Lane<D, G> {
 
     /// Asks the gateway for an order, and takes it off the outbox; then settles it by the answer, for which
     /// it takes no memory.
-    #[tactic(auto, using(crate::proofs::Choices::all_four))]
+    #[tactic(auto, using(kb_works::proofs::Choices::all_four))]
     fn ask(
         &mut self,
         today: Day,
@@ -218,74 +211,6 @@ impl<D: Disk, G: Gateway + Drop> Lane<D, G> {
         requires there { IsSome (order_of (machine_of self.now) account key) }
         ensures { order_of (machine_of self.now) account key ≡ Some result }
     {
-        let Some(book) = self.machine.books().get(&account) else {
-            unreachable!()
-        };
-        let Some(attempt) = book.payments().attempt(key) else {
-            unreachable!()
-        };
-        Order {
-            account,
-            key,
-            id: gateway_id(account, key),
-            kind: attempt.kind,
-            amount: attempt.amount,
-            currency: book.currency(),
-        }
-    }
-}
-
-/// Writes a settlement down, and takes it in. It takes no memory.
-fn write<D: Disk>(
-    machine: &mut Machine,
-    log: &mut Log<D>,
-    today: Day,
-    settlement: Settlement,
-) -> Result<(), AppendFault>
-    requires ready { IsReadyOf machine.old today settlement.command settlement }
-    ensures outcome { Appends D.fault_count log.old log.new (today, settlement.command)
-        (length (payload (today, settlement.command))) result }
-    ensures few { OnOk result (length log.old.history < 2 ^ 32) }
-    ensures machine { OnOk result (machine.new ≡ changed machine.old settlement.change) }
-    ensures unchanged { OnErr result (machine.new ≡ machine.old) }
-    ensures moments { log.old.journal.stopped ≡ false → IsTrue (D.honest log.old.journal.disk)
-        → AtEachMoment D.moment D.left_since log.old.journal.disk log.new.journal.disk
-        (IsWithOrWithout log.old.journal.lanes log.old.journal.lane (payloads log.old.history)
-        (payload (today, settlement.command))) }
-    ensures same { (log.new.opened ≡ log.old.opened) × (log.new.faults ≡ log.old.faults) }
-    ensures place { (log.new.journal.lanes ≡ log.old.journal.lanes)
-        × (log.new.journal.lane ≡ log.old.journal.lane) }
-    ensures honesty { D.honest log.new.journal.disk ≡ D.honest log.old.journal.disk }
-    ensures rising { D.fault_count log.old.journal.disk ≤ D.fault_count log.new.journal.disk }
-{
-    let Settlement {
-        command,
-        change,
-        bytes,
-    } = settlement;
-    match log.append(today, &command, &bytes) {
-        Ok(()) => {
-            machine.commit(change);
-            Ok(())
-        }
-        Err(fault) => unchanged(change, fault),
-    }
-}
-
-/// Lets a change go that isn't written down.
-fn unchanged(_change: Change, fault: AppendFault) -> Result<(), AppendFault>
-    ensures { result ≡ Err fault }
-{
-    Err(fault)
-}
-
-/// The step that ends with an append that failed.
-fn stopped_by(fault: AppendFault) -> Step
-    ensures { result ≡ fault_step fault }
-{
-    match fault {
-        AppendFault::DiskFault => Step::DiskFault,
-        AppendFault::Stopped(count) => Step::Stopped(count),
-        AppendFault::Full { commands, size } => Step::Full { commands, size },
+        order_of(&self.machine, account, key)
     }
 }

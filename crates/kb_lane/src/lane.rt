@@ -23,7 +23,6 @@ use std::collections::VecDeque;
 use std::marker::Model;
 
 /// Accounts on a journal, with what is yet to do for them and the gateway that is asked for payments.
-#[derive(Drop)]
 pub struct Lane<D: Disk, G: Gateway + Drop> {
     pub(crate) machine: Machine,
     pub(crate) log: Log<D>,
@@ -31,6 +30,19 @@ pub struct Lane<D: Disk, G: Gateway + Drop> {
     pub(crate) gateway: G,
     /// The accounts and keys of the payments that the gateway was asked for since the lane was opened.
     pub(crate) own: History<Name, Name>,
+}
+
+impl<D: Disk + Drop, G: Gateway + Drop> Drop for Lane<D, G> {
+    /// Drops all that it holds. No crate above has to show again how that is dropped.
+    fn drop(self) {
+        let Lane {
+            machine: _machine,
+            log: _log,
+            outbox: _outbox,
+            gateway: _gateway,
+            own: _own,
+        } = self;
+    }
 }
 
 impl<D: Disk, G: Gateway + Drop> Model for Lane<D, G> {
@@ -111,7 +123,14 @@ impl<D: Disk, G: Gateway + Drop> Lane<D, G> {
             → Rose self.log.faults (D.fault_count self.log.journal.disk) }
         ensures once { WasAskedOnce (opened_of self) (G.asked self.gateway) self.own }
     {
-        (self.log.into_disk(), self.gateway)
+        let Lane {
+            machine: _machine,
+            log,
+            outbox: _outbox,
+            gateway,
+            own: _own,
+        } = self;
+        (log.into_disk(), gateway)
     }
 
     /// The number of lanes that the header tells.

@@ -14,12 +14,8 @@ mod janitor;
 mod lane;
 mod load;
 mod reading;
-mod replayed;
-mod settlement;
-mod work;
-mod works;
 
 pub use kb_reply::{LaneReply, Step};
+pub use kb_works::Work;
 pub use lane::Lane;
 pub use reading::account_asked;
-pub use work::Work;

@@ -9,12 +9,12 @@ ghost use Rattle.kb_machine.specs.Histories.{AreNewFrom};
 ghost use Rattle.kb_lane.specs.Loads.{RefusesLane};
 
 use crate::Lane;
-use crate::replayed::{Replayed, replay_all};
 use kb_disk::Disk;
 use kb_gateway::Gateway;
 use kb_history::History;
 use kb_journal::{Journal, LoadFault};
 use kb_log::Log;
+use kb_records::{Replayed, replay_all};
 use std::alloc::Global;
 use std::collections::VecDeque;
 

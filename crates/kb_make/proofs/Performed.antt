@@ -7,10 +7,10 @@ use Rattle.kb_reply.specs.declared.reply.LaneReply.TheVariants as replies
 use Rattle.kb_machine.specs.Judged.{Judged, New, Again, Refused, after_judged, is_new, refusal_in}
 use Rattle.kb_machine.specs.Machines.{MachineValue, judged, reply_of}
 use Rattle.kb_machine.specs.Histories.{replay}
-use Rattle.kb_lane.specs.declared.work.Work.{Work}
+use Rattle.kb_works.specs.declared.work.Work.{Work}
 use Rattle.kb_lane.specs.Lanes.{LaneValue, machine_of}
 use Rattle.kb_lane.specs.Replies.{IsReply, Takes, is_accepted, is_taken}
-use Rattle.kb_lane.specs.Works.{work_of}
+use Rattle.kb_works.specs.Works.{work_of}
 use Rattle.kb_machine.proofs.Replays.{replay_more}
 use Rattle.kb_lane.proofs.SaidReplies.{Accepts, judged_accepts}
 use Rattle.kb_make.specs.Makes.{is_refused, sent}

@@ -7,7 +7,7 @@ use Rattle.kb_codec.specs.declared.command.Command.TheVariants as kinds
 use Rattle.kb_generator.specs.SeedCommands.{is_seeded}
 use Rattle.kb_log.specs.Entries.{Entry}
 use Rattle.kb_machine.specs.Machines.{MachineValue, is_callers, is_text}
-use Rattle.kb_lane.specs.Works.{work_of}
+use Rattle.kb_works.specs.Works.{work_of}
 use Rattle.kb_make.specs.Makes.{IsDoneWith, Sends, is_refused, sent}
 use Rattle.kb_make.specs.Private.Sending.{Completes}
 

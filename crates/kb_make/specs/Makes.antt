@@ -10,10 +10,11 @@ use Rattle.kb_log.specs.Entries.{Entry}
 use Rattle.kb_machine.specs.Judged.{is_new, refusal_in}
 use Rattle.kb_machine.specs.Machines.{MachineValue, judged}
 use Rattle.kb_machine.specs.Histories.{entry_after, replay}
-use Rattle.kb_lane.specs.declared.work.Work.{Work}
-use Rattle.kb_lane.specs.declared.work.Work.TheVariants.{Ask, Check}
-use Rattle.kb_lane.specs.Works.{work_of}
-use Rattle.kb_lane.specs.Draining.{due_of, settled_by}
+use Rattle.kb_works.specs.declared.work.Work.{Work}
+use Rattle.kb_works.specs.declared.work.Work.TheVariants.{Ask, Check}
+use Rattle.kb_works.specs.Works.{work_of}
+use Rattle.kb_works.specs.Orders.{settled_by}
+use Rattle.kb_lane.specs.Draining.{due_of}
 use Rattle.kb_founding.specs.Foundings.{AreTextsOf, first_commands}
 use Rattle.kb_generator.specs.Seeds.{commands_of}
 

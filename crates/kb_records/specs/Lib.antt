@@ -1,0 +1,2 @@
+pub mod StuckRecords
+pub mod Replays
