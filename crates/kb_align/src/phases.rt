@@ -1,5 +1,5 @@
 //! When the phases of a plan start, and which of them governs a day.
-ghost use Rattle.std.specs.Prelude.{◌≡◌, ◌≤◌, ◌<◌, ◌^◌, ℕ, length, Some, IfOk, IfSome, option_and_then};
+ghost use Rattle.std.specs.Prelude.{◌≡◌, ◌≤◌, ◌<◌, ◌^◌, length, Some, IfOk, IfSome, option_and_then};
 ghost use Rattle.kb_align.specs.Phases.{over, phase_starts, begun_by, phase_on};
 
 use kb_base::NoMemory;

@@ -1,10 +1,9 @@
 -- A run over lines of lanes that were opened and are given back.
-use Rattle.std.proofs.Common.{◌≡◌, ℕ, zero, suc, ◌<◌, ◌≤◌, Bool, true, false, true≢false, IsTrue, List, []}
-use Rattle.std.proofs.Common.{◌∷◌, length, Option, None, Some, IfSome, Result, Ok, Err, inl, inr, arith, refl}
-use Rattle.std.proofs.Common.{sym, ap, subst, ◌∙◌}
-use Rattle.std.specs.List.{slice_get, list_any}
+use Rattle.std.proofs.Common.{◌≡◌, ℕ, zero, suc, ◌≤◌, Bool, true, false, IsTrue, List, []}
+use Rattle.std.proofs.Common.{◌∷◌, length, Option, None, Some, IfSome, Result, Ok, Err, arith, refl}
+use Rattle.std.proofs.Common.{sym, subst, ◌∙◌}
+use Rattle.std.specs.List.{slice_get}
 use Rattle.kb_base.specs.Faults.{Rose}
-use Rattle.kb_disk.specs.Images.{Only}
 use Rattle.kb_vault.specs.Vaults.{Opens}
 use Rattle.kb_gateway.specs.declared.order.Asked.{Asked}
 use Rattle.kb_gateway.specs.declared.told.Saying.{Saying}
@@ -12,7 +11,6 @@ use Rattle.kb_log.specs.Logs.{StandsForLog}
 use Rattle.kb_versions.proofs.BilledNow.{replays_are_billed_now}
 use Rattle.kb_versions.proofs.EvenNow.{replays_are_even_now}
 use Rattle.kb_lane.specs.Lanes.{LaneValue}
-use Rattle.kb_lines.specs.declared.stop.Stop.{Stop as RunStop}
 use Rattle.kb_lines.specs.Reading.{Known}
 use Rattle.kb_apply.specs.declared.apply.ApplyStop.{ApplyStop}
 use Rattle.kb_apply.specs.declared.apply.ApplyStop.TheVariants as applied
@@ -21,9 +19,9 @@ use Rattle.kb_apply.specs.Continuing.{Continues, ContinueAll}
 use Rattle.kb_apply.specs.LaneRuns.{LanesValue, Outside, outside_of, lanes_machine}
 use Rattle.kb_apply.proofs.Continuing.{done_continues, stopped_continues}
 use Rattle.kb_opening.specs.Folders.{VaultTold, DiskWords, words_of}
-use Rattle.kb_opening.specs.Openings.{AreOpened, AreServed, IsOpened}
+use Rattle.kb_opening.specs.Openings.{AreOpened, AreServed}
 use Rattle.kb_opening.proofs.Closing.{as_out_as_before, others_as_before}
-use Rattle.kb_billd.specs.Runs.{IsSoundLane, RunsLanes}
+use Rattle.kb_billd.specs.Runs.{RunsLanes}
 use Rattle.kb_billd.specs.Private.OpenRuns.{RunsOpen}
 
 -- an item at a place has one at the same place of a list as long

@@ -1,6 +1,6 @@
 -- `apply`, by the gateway that is named.
 use Rattle.std.specs.Prelude.{⊤}
-use Rattle.std.proofs.Common.{◌≡◌, ℕ, List, Option, None, Some, Result, refl, sym, subst}
+use Rattle.std.proofs.Common.{◌≡◌, ℕ, List, Option, None, Some, Result, sym, subst}
 use Rattle.kb_lines.specs.Reading.{Known}
 use Rattle.kb_apply.specs.LaneRuns.{Outside}
 use Rattle.kb_opening.specs.Folders.{VaultTold, DiskWords}

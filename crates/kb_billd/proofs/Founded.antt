@@ -1,5 +1,5 @@
 -- What the making of a folder's lanes leaves.
-use Rattle.std.proofs.Common.{◌≡◌, ℕ, ◌+◌, ◌<◌, Option, Result, Ok, Err, OnOk, refl, ◌∙◌, sym}
+use Rattle.std.proofs.Common.{◌≡◌, ℕ, ◌+◌, ◌<◌, Result, Ok, Err, OnOk, refl, ◌∙◌, sym}
 use Rattle.kb_base.specs.Faults.{Rose}
 use Rattle.kb_catalog_text.specs.declared.fault.TextFault.{TextFault}
 use Rattle.kb_lines.specs.declared.stop.Stop.TheVariants as runs

@@ -11,7 +11,6 @@ use Rattle.kb_opening.proofs.Unchanged.{unchanged, uncounted}
 use Rattle.kb_reports.specs.declared.printing.Unprinted.{Unprinted}
 use Rattle.kb_reports.specs.declared.printing.Unprinted.TheVariants as unprinted
 use Rattle.kb_reports.specs.Listings.{Said, Prints, PrintsPart}
-use Rattle.kb_endings.specs.declared.stop.Stop.{Stop}
 use Rattle.kb_endings.specs.declared.stop.Stop.TheVariants as stops
 use Rattle.kb_billd.specs.Reports.{PrintsBy, ReportsLanes, outcome_of_printing}
 

@@ -1,6 +1,6 @@
 -- What is done by words, put together.
-use Rattle.std.proofs.Common.{◌≡◌, ◌≤◌, ◌⊎◌, ℕ, List, Option, None, Some, Result, Ok, Err, arith, inl, inr}
-use Rattle.std.proofs.Common.{refl, sym, subst}
+use Rattle.std.proofs.Common.{◌≤◌, ◌⊎◌, ℕ, List, Option, None, Some, Result, arith, inl, inr}
+use Rattle.std.proofs.Common.{refl}
 use Rattle.std.specs.Io.KnownBytes.{Keeps}
 use Rattle.kb_base.specs.Faults.{Rose}
 use Rattle.kb_lines.specs.Reading.{Known}

@@ -1,6 +1,5 @@
 -- What the making of a folder's lanes leaves.
-use Rattle.std.specs.Prelude.{ℕ, ◌≡◌, ◌+◌, ◌<◌, List, Option, IfSome, Result, Ok, Err, OnOk, ⊤}
-use Rattle.kb_catalog_text.specs.declared.fault.TextFault.{TextFault}
+use Rattle.std.specs.Prelude.{ℕ, ◌≡◌, ◌+◌, ◌<◌, IfSome, Result, Ok, Err, ⊤}
 use Rattle.kb_lines.specs.declared.stop.Stop.TheVariants as runs
 use Rattle.kb_words.specs.declared.words.Init.{Init}
 use Rattle.kb_vault.specs.Places.{SameLanes, SameFiles}

@@ -1,5 +1,5 @@
 //! The top call: what the program does with its words.
-ghost use Rattle.std.specs.Prelude.{◌≡◌, ◌≤◌, ◌⊎◌, ℕ, List, Err, Some, None, false, map, option_copied};
+ghost use Rattle.std.specs.Prelude.{◌≡◌, ◌≤◌, ℕ, List, Err, Some, None, false, map, option_copied};
 ghost use Rattle.std.specs.Prelude.{string_bytes};
 ghost use Rattle.kb_base.specs.Faults.{Rose};
 ghost use Rattle.kb_apply.specs.LaneRuns.{outside_of};

@@ -1,7 +1,7 @@
 //! The blocking states of an account. Beside them stands how long each counts, so that a day is asked by one
 //! walk.
 ghost use Rattle.std.specs.Prelude.{◌≡◌, ◌<◌, ◌≤◌, ◌↔◌, ◌++◌, ◌∷◌, [], ℕ, true, length, Contains, AllPairs};
-ghost use Rattle.std.specs.Prelude.{Err, IfOk, IfErr};
+ghost use Rattle.std.specs.Prelude.{Err, IfOk};
 ghost use Rattle.kb_blocking.specs.Blocking.{max_states, is_on, turns};
 
 use crate::stay::{Stay, is_any_on, with_stay};

@@ -1,5 +1,5 @@
 //! The cases of rule lists: what each asks, and whether that holds.
-ghost use Rattle.std.specs.Prelude.{◌≡◌, ◌&&◌, Bool, true, Some, bytes_eq, find};
+ghost use Rattle.std.specs.Prelude.{◌≡◌, ◌&&◌, true, Some, bytes_eq, find};
 ghost use Rattle.std.specs.Option.{option_copied};
 ghost use Rattle.kb_catalog.specs.Words.{same_category, same_phase, same_period};
 ghost use Rattle.kb_catalog.specs.Cases.{Asks, ends_open, asks_of_change, asks_of_plan, asks_of_create};

@@ -1,5 +1,5 @@
 //! Whether the rules of a version hold: a function for each definition, and the first fault of all.
-ghost use Rattle.std.specs.Prelude.{◌≡◌, ◌<◌, ◌^◌, ◌≤◌, length, max};
+ghost use Rattle.std.specs.Prelude.{◌≡◌, ◌<◌, ◌^◌, ◌≤◌, max};
 ghost use Rattle.kb_catalog.specs.VersionRules.{HasCounts, places, is_broken_at, first_offender, fault_among};
 ghost use Rattle.kb_catalog.specs.VersionRules.{fault_of};
 

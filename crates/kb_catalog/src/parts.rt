@@ -1,5 +1,5 @@
 //! What a version, a product and a phase tell of their parts.
-ghost use Rattle.std.specs.Prelude.{◌≡◌, bytes_eq, find, option_map, option_copied};
+ghost use Rattle.std.specs.Prelude.{◌≡◌, bytes_eq, find, option_copied};
 ghost use Rattle.kb_catalog.specs.declared.version.Product.{Product};
 ghost use Rattle.kb_catalog.specs.Products.{product_named, has_name};
 ghost use Rattle.kb_catalog.specs.Plans.{price_in};

@@ -2,7 +2,7 @@
 ghost use Rattle.std.specs.Prelude.{ℕ, ◌≡◌, List, [], Some, None, IfOk, IfErr, option_map};
 ghost use Rattle.toml.specs.Data.{Data, get_member, as_table};
 ghost use Rattle.toml.specs.View.{view, table_view, items_view};
-ghost use Rattle.kb_catalog_text.specs.Reads.{Read, IsRead, IsTold, read_as, required, optional, read_or};
+ghost use Rattle.kb_catalog_text.specs.Reads.{Read, IsRead, IsTold, required, optional, read_or};
 ghost use Rattle.kb_catalog_text.specs.Reads.{read_items, read_array};
 
 use crate::key_fault::KeyFault;

@@ -1,5 +1,5 @@
 //! The clock of the system.
-ghost use Rattle.std.specs.Prelude.{◌≡◌, None};
+ghost use Rattle.std.specs.Prelude.{None};
 
 use crate::{Clock, day_at};
 use kb_days::Day;

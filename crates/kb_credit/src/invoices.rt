@@ -1,7 +1,7 @@
 //! The invoices of an account. Beside the rows stand the open invoices and the sums, so that no call walks
 //! all rows.
 ghost use Rattle.std.specs.Prelude.{◌≡◌, ◌↔◌, ◌⊎◌, ◌+◌, ◌-◌, ◌^◌, ◌<◌, ◌≤◌, ◌≤ℤ◌, ◌-ℤ◌, pos, false, length};
-ghost use Rattle.std.specs.Prelude.{nat_abs, IsTrue};
+ghost use Rattle.std.specs.Prelude.{IsTrue};
 ghost use Rattle.std.specs.Prelude.{All, Contains, Option, None, option_map, option_copied, IfOk, IfSome};
 ghost use Rattle.std.specs.Int.{int_max};
 ghost use Rattle.kb_credit.specs.Sizes.{size_of};

@@ -1,7 +1,7 @@
 //! Months, which are counted from January 1970.
-ghost use Rattle.std.specs.Prelude.{◌≡◌, ◌≤◌, ◌<◌, ◌+◌, ◌/◌, ◌%◌, ◌≤ℤ◌, ℕ, min, pos};
+ghost use Rattle.std.specs.Prelude.{◌≡◌, ◌≤◌, ◌<◌, ◌+◌, ◌/◌, ◌%◌, ◌≤ℤ◌, ℕ, pos};
 ghost use Rattle.jiff_core.specs.Date.{epoch_day};
-ghost use Rattle.kb_days.specs.Calendar.{first_reach, last_reach, mark, month_of, day_of_month};
+ghost use Rattle.kb_days.specs.Calendar.{mark, month_of, day_of_month};
 ghost use Rattle.kb_days.specs.Calendar.{month_start, month_length};
 
 use crate::{Bcd, Reach};

@@ -1,5 +1,5 @@
 -- Stretches of days with one cell.
-use Rattle.std.specs.Prelude.{ℕ, ◌+◌, ◌≤◌, Bool, ◌&&◌, nat_eq}
+use Rattle.std.specs.Prelude.{◌+◌, ◌≤◌, Bool, ◌&&◌, nat_eq}
 use Rattle.kb_base.specs.Runs.{Stretch}
 use Rattle.kb_timeline.specs.declared.entry.PlanRef.{PlanRef}
 use Rattle.kb_align.specs.PeriodDays.{max_period_days}

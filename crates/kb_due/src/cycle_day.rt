@@ -1,5 +1,5 @@
 //! The cycle day by which a day is billed.
-ghost use Rattle.std.specs.Prelude.{◌≡◌, is_some, find, Some, unwrap_or, option_map, option_copied};
+ghost use Rattle.std.specs.Prelude.{◌≡◌, is_some, Some, unwrap_or, option_map};
 ghost use Rattle.std.specs.Prelude.{option_and_then};
 ghost use Rattle.kb_catalog.specs.declared.version.Phase.{Phase};
 ghost use Rattle.kb_catalog.specs.declared.version.Product.{Product};

@@ -1,5 +1,4 @@
 //! What billing looks at.
-ghost use Rattle.std.specs.Prelude.{◌≡◌};
 
 use kb_blocking::Blocks;
 use kb_catalog::Catalog;

@@ -1,5 +1,5 @@
 //! When a subscription is live.
-ghost use Rattle.std.specs.Prelude.{◌≡◌, ◌<◌, ◌+◌, ◌-◌, length, option_and_then, option_copied};
+ghost use Rattle.std.specs.Prelude.{◌≡◌, ◌<◌, ◌+◌, ◌-◌, length, option_copied};
 ghost use Rattle.std.specs.List.{list_all, range_with_len};
 ghost use Rattle.kb_catalog.specs.Products.{has_name};
 ghost use Rattle.kb_due.specs.Life.{has_started, is_cancelled, is_running, choice_on, available_with};

@@ -1,5 +1,5 @@
 //! The pieces of a subscription.
-ghost use Rattle.std.specs.Prelude.{◌≡◌, ◌<◌, ◌≤◌, ◌+◌, ◌-◌, ◌⊎◌, ℕ, true, length, map, All, None, IfOk};
+ghost use Rattle.std.specs.Prelude.{◌≡◌, ◌<◌, ◌≤◌, ◌-◌, ◌⊎◌, ℕ, true, length, map, All, None, IfOk};
 ghost use Rattle.std.specs.Prelude.{OnOk};
 ghost use Rattle.kb_base.specs.Runs.{runs, AreRuns};
 ghost use Rattle.kb_days.specs.Calendar.{first_day, charged_days, end_of_days};

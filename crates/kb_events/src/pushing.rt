@@ -1,6 +1,6 @@
 //! Pieces that are told one after another.
 ghost use Rattle.std.specs.Prelude.{◌≡◌, ◌++◌, ◌∷◌, [], ◌&&◌, ◌==◌, Some, true, false, map, OnOk};
-ghost use Rattle.kb_base.specs.Intervals.{last_two, push_run};
+ghost use Rattle.kb_base.specs.Intervals.{push_run};
 ghost use Rattle.kb_due.specs.CellStretches.{same_cell, stretch_of};
 
 use kb_base::NoMemory;

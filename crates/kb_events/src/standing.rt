@@ -1,7 +1,7 @@
 //! How the billing flag stands on a day: it is asked once on the first day, and turns from then on.
 ghost use Rattle.std.specs.Prelude.{◌≡◌, ◌<◌, ◌≤◌, ◌⊎◌, ℕ, List, length, Contains, AllPairs};
 ghost use Rattle.std.specs.List.Sorted.{IsPartitionPoint};
-ghost use Rattle.kb_days.specs.Calendar.{first_day, end_of_days};
+ghost use Rattle.kb_days.specs.Calendar.{first_day};
 ghost use Rattle.kb_blocking.specs.declared.state.BlockState.{BlockState};
 ghost use Rattle.kb_blocking.specs.declared.state.Chain as chains;
 ghost use Rattle.kb_blocking.specs.Blocking.{differ};

@@ -1,9 +1,7 @@
 //! Folders of the system as a vault.
-ghost use Rattle.std.specs.Prelude.{◌≡◌, ◌≤◌, ◌<◌, [], ◌∷◌, ◌++◌, true, false, None, refl, length};
-ghost use Rattle.std.specs.Prelude.{IfOk, OnOk, OnErr, not};
-ghost use Rattle.std.specs.List.{filter};
+ghost use Rattle.std.specs.Prelude.{◌≡◌, ◌≤◌, ◌<◌, [], true, None, refl, length};
+ghost use Rattle.std.specs.Prelude.{IfOk, OnOk, OnErr};
 ghost use Rattle.kb_base.specs.Faults.{Rose};
-ghost use Rattle.kb_vault.specs.Places.{is_place, with_lane, SameLanes};
 ghost use Rattle.kb_vault.specs.Vaults.{IsCounted};
 ghost use Rattle.kb_vault.specs.Memory.{count_after, count_back};
 ghost use Rattle.kb_folders.specs.Folders.{is_among};

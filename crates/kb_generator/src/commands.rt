@@ -1,5 +1,5 @@
 //! The kinds of commands that a seed stands for.
-ghost use Rattle.std.specs.Prelude.{◌≡◌, ◌≤◌, ◌-◌, codes, true, IfSome, option_map, slice_get};
+ghost use Rattle.std.specs.Prelude.{◌≡◌, ◌≤◌, ◌-◌, true, IfSome, option_map, slice_get};
 ghost use Rattle.kb_generator.specs.SeedCommands.{opening, creation, pause, resumption, change};
 ghost use Rattle.kb_generator.specs.SeedCommands.{charge, credit, bill, choices, is_seeded};
 ghost use Rattle.kb_codec.specs.Commands.{IsAmount};

@@ -16,16 +16,16 @@ ghost use Rattle.std.specs.Prelude.{◌≡◌, ◌≢◌, ◌≤◌, ◌<◌, �
 ghost use Rattle.std.specs.Prelude.{length};
 ghost use Rattle.std.specs.Prelude.{◌||◌, nat_le, IfSome, IfOk, IfErr, OnOk, OnErr};
 ghost use Rattle.kb_http.specs.Heads.{max_requests};
-ghost use Rattle.std.specs.Io.KnownBytes.{Appends, Consumes, Keeps, IsAtEnd, prepend_known};
-ghost use Rattle.kb_base.specs.Faults.{HasCause, Rose};
+ghost use Rattle.std.specs.Io.KnownBytes.{Appends, Consumes, Keeps, prepend_known};
+ghost use Rattle.kb_base.specs.Faults.{HasCause};
 ghost use Rattle.kb_base.specs.Stream.{Writes};
 ghost use Rattle.httparse.specs.Grammar.{RequestHead};
 ghost use Rattle.kb_http.specs.Connections.{new_conn, unread, told_of, ended_by, IfRequest, UnlessRequest};
 ghost use Rattle.kb_http.specs.Connections.{UnlessFault};
 ghost use Rattle.kb_http.specs.Connections.{count_after, IsCaused, Meets, MeetsPart, MeetsEnd};
 ghost use Rattle.kb_http.specs.declared.request.HttpRequest.{HttpRequest};
-ghost use Rattle.kb_http.specs.Requests.{IsRequest, IsRefused, IsCutShort, BeginsWith};
-ghost use Rattle.kb_http.specs.Private.Reading.{ReadsAhead, StandsStill, Stops, HasHead, HasWhole};
+ghost use Rattle.kb_http.specs.Requests.{IsRequest, BeginsWith};
+ghost use Rattle.kb_http.specs.Private.Reading.{ReadsAhead, StandsStill, Stops, HasWhole};
 
 use crate::head::Head;
 use crate::reading::{MAX_BODY, MAX_HEAD, PIECE, fill, read_head};

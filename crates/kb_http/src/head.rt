@@ -1,9 +1,9 @@
 //! The head of a request, as far as it tells where the request goes and what is read behind it.
-ghost use Rattle.std.specs.Prelude.{◌≡◌, ◌≤◌, ◌==◌, length, map, All, Ok, Err, Some, None, bytes_eq, codes};
+ghost use Rattle.std.specs.Prelude.{◌≡◌, ◌==◌, length, map, All, Ok, Err, Some, None, bytes_eq, codes};
 ghost use Rattle.std.specs.List.{list_any};
 ghost use Rattle.httparse.specs.Spans.{IsWithin, IsHeaderWithin, span_bytes, header_bytes};
-ghost use Rattle.kb_http.specs.Heads.{is_named, values_of, told_length, body_length, framing_of};
-ghost use Rattle.kb_http.specs.Heads.{asks_to_close, asks_for_end, max_fields};
+ghost use Rattle.kb_http.specs.Heads.{is_named, told_length, body_length, framing_of};
+ghost use Rattle.kb_http.specs.Heads.{asks_to_close};
 ghost use Rattle.kb_http.specs.Private.Parts.{told_with, told_after, told_by, length_of, Asks, Sees};
 
 use crate::words::{is_word, lists_close, number};

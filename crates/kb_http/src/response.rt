@@ -1,10 +1,10 @@
 //! The bytes of responses.
-ghost use Rattle.std.specs.Prelude.{◌≡◌, ◌==◌, ◌↔◌, ◌++◌, is_some, IfOk, OnOk, IsSome, IsTrue, length};
-ghost use Rattle.std.specs.Prelude.{◌≤◌, codes};
+ghost use Rattle.std.specs.Prelude.{◌≡◌, ◌==◌, ◌++◌, is_some, IfOk, OnOk, length};
+ghost use Rattle.std.specs.Prelude.{codes};
 ghost use Rattle.http.specs.StatusCode.{code_digits};
 ghost use Rattle.httparse.specs.Ascii.{crlf_bytes};
 ghost use Rattle.kb_http.specs.Responses.{IsStatus, phrase_of, status_line, type_line, length_line};
-ghost use Rattle.kb_http.specs.Responses.{allow_line, close_line, response_head, response};
+ghost use Rattle.kb_http.specs.Responses.{allow_line, close_line, response};
 
 use crate::Allow;
 use http::StatusCode;

@@ -1,5 +1,5 @@
 //! Where a request goes.
-ghost use Rattle.std.specs.Prelude.{◌≡◌, ◌∷◌, ◌↔◌, not, ◌==◌, ◌⊎◌, List, ℕ};
+ghost use Rattle.std.specs.Prelude.{◌≡◌, ◌==◌};
 ghost use Rattle.std.specs.Prelude.{if◌then◌else◌};
 ghost use Rattle.kb_http.specs.declared.route.Route.TheVariants.{Invoice, Unknown};
 ghost use Rattle.kb_base.specs.Lines.{pieces};

@@ -1,8 +1,8 @@
 //! Reads of a whole disk.
-ghost use Rattle.std.specs.Prelude.{◌≡◌, ◌≤◌, ◌<◌, ◌⊎◌, IsTrue, IfOk, IfErr, OnOk, length, take};
-ghost use Rattle.kb_base.specs.Faults.{HasCause, Rose};
+ghost use Rattle.std.specs.Prelude.{◌≡◌, ◌≤◌, ◌<◌, IsTrue, IfOk, IfErr, OnOk, length, take};
+ghost use Rattle.kb_base.specs.Faults.{HasCause};
 ghost use Rattle.kb_disk.specs.Images.{Only};
-ghost use Rattle.kb_journal.specs.declared.fault.LoadFault.TheVariants.{NoMemory, DiskFault};
+ghost use Rattle.kb_journal.specs.declared.fault.LoadFault.TheVariants.{DiskFault};
 ghost use Rattle.kb_journal.specs.Unwritten.{IsUnwritten};
 ghost use Rattle.kb_journal.specs.Private.Parts.{StopsBefore};
 

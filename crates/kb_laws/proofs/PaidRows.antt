@@ -7,7 +7,7 @@ use Rattle.std.proofs.lemmas.Int.{ints}
 use Rattle.std.proofs.lemmas.Bool.{eq-eqb, eqb-true}
 use Rattle.kb_credit.specs.declared.row.Row.{Row}
 use Rattle.kb_credit.specs.InvoiceRows.{InvoicesValue}
-use Rattle.kb_credit.specs.InvoiceEdits.{paid_at, issued, levelled}
+use Rattle.kb_credit.specs.InvoiceEdits.{paid_at}
 use Rattle.kb_credit.specs.InvoiceEdits as edits
 use Rattle.kb_payment.specs.PaymentSums.{PaymentsValue, paid_on, Moves}
 use Rattle.kb_book.specs.Steps.{paid_from, with_paid}

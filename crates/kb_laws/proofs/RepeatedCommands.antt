@@ -12,7 +12,7 @@ use Rattle.kb_codec.specs.declared.command.Command.{Command}
 use Rattle.kb_codec.specs.Commands.{spelling}
 use Rattle.kb_book.specs.declared.answer.Answer.{Answer}
 use Rattle.kb_book.specs.Worlds.{WorldValue}
-use Rattle.kb_book.specs.Books.{BookValue, Kept, Keyed}
+use Rattle.kb_book.specs.Books.{BookValue, Keyed}
 use Rattle.kb_book.specs.Steps.{Outcome, key_of, keep, kept_of, accepted_over, billed_outcome}
 use Rattle.kb_book.specs.Steps.{issue_over, own_lines, step}
 use Rattle.kb_book.specs.Edits.{begun}

@@ -1,5 +1,5 @@
 //! One exchange over a link: a line is written, and one that answers it is read.
-ghost use Rattle.std.specs.Prelude.{◌≡◌, ◌≤◌, ◌⊎◌, [], ◌∷◌, length, IfSome, IfOk, OnOk, OnErr};
+ghost use Rattle.std.specs.Prelude.{◌≡◌, ◌⊎◌, [], ◌∷◌, IfSome, IfOk, OnOk, OnErr};
 ghost use Rattle.std.specs.Prelude.{None};
 ghost use Rattle.std.specs.Io.KnownBytes.{Appends, Consumes, Keeps, IsAtEnd};
 ghost use Rattle.kb_base.specs.Faults.{HasCause, Rose};

@@ -1,5 +1,4 @@
 //! What a thread keeps of a lock: a pass, and the value while it has the turn.
-ghost use Rattle.std.specs.Prelude.{◌≡◌};
 
 use crate::counted::Counted;
 use crate::table::LockSeat;

@@ -1,5 +1,5 @@
 //! What waits: the draw, where no ticket is left, and the turn.
-ghost use Rattle.std.specs.Prelude.{◌≡◌, [], ◌∷◌};
+ghost use Rattle.std.specs.Prelude.{◌≡◌, []};
 ghost use Rattle.kb_lock.specs.Private.Views.{waits};
 ghost use Rattle.kb_lock.specs.Private.Plays.{Got};
 ghost use Rattle.kb_lock.specs.Private.Inside.{IsSized, IsIdle};

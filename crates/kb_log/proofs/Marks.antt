@@ -1,7 +1,6 @@
 -- A log whose append failed: its command is marked, and each image stands for the history with it or without.
-use Rattle.std.proofs.Common.{◌≡◌, ℕ, ◌≤◌, ◌<◌, Bool, true, false, true≢false, IsTrue, List, [], ◌∷◌, ◌++◌}
-use Rattle.std.proofs.Common.{length}
-use Rattle.std.proofs.Common.{refl, sym, ap, subst, ◌∙◌, arith}
+use Rattle.std.proofs.Common.{◌≡◌, ℕ, ◌≤◌, Bool, true, false, true≢false, IsTrue, List, [], ◌∷◌, ◌++◌}
+use Rattle.std.proofs.Common.{sym, ap, subst, ◌∙◌, arith}
 use Rattle.kb_base.specs.Faults.{Rose}
 use Rattle.kb_disk.specs.Moments.{AtEachMoment}
 use Rattle.kb_disk.proofs.Moments.{now_has}

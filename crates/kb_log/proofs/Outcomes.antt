@@ -1,6 +1,5 @@
 -- What an answer of a journal tells of the journal as it was.
-use Rattle.std.proofs.Common.{◌≡◌, ℕ, Bool, true, false, Result, Ok, Err, IsErrOf, ◌↔◌, refl, sym, ◌∙◌}
-use Rattle.kb_journal.specs.Keeping.{JournalValue, IsFull}
+use Rattle.std.proofs.Common.{◌≡◌, ℕ, Bool, true, false, Result, Err, IsErrOf, ◌↔◌, refl}
 use Rattle.kb_journal.specs.declared.fault.AppendFault.{AppendFault}
 use Rattle.kb_journal.specs.declared.fault.AppendFault.TheVariants.{Stopped, Full, DiskFault}
 

@@ -1,8 +1,7 @@
 //! The log of a lane.
-ghost use Rattle.std.specs.Prelude.{◌+◌, ◌^◌, ◌<◌, ◌≡◌, ◌↔◌, ◌≤◌, ◌++◌, ◌∷◌, [], ℕ, true, false, length};
-ghost use Rattle.std.specs.Prelude.{IsTrue, IfOk, IfErr, OnOk, OnErr, IsErrOf};
+ghost use Rattle.std.specs.Prelude.{◌+◌, ◌^◌, ◌<◌, ◌≡◌, ◌≤◌, [], true, false, length};
+ghost use Rattle.std.specs.Prelude.{IsTrue, IfOk, IfErr, OnOk};
 ghost use Rattle.kb_base.specs.Faults.{Rose};
-ghost use Rattle.kb_codec.specs.declared.command.Command.{Command as AnyCommand};
 ghost use Rattle.kb_disk.specs.Moments.{AtEachMoment};
 ghost use Rattle.kb_journal.specs.Format.{IsSized, IsWithOrWithout};
 ghost use Rattle.kb_journal.specs.Keeping.{Holds, RefusesToCreate};

@@ -1,5 +1,5 @@
 -- Whether a version may be added, as the catalog says it and as the rows of refusals do.
-use Rattle.std.proofs.Common.{◌≡◌, ℕ, ◌<◌, ◌≤◌, ◌==◌, true, false, Bool, nat_le, List, length, Option, Some}
+use Rattle.std.proofs.Common.{◌≡◌, ◌<◌, ◌≤◌, ◌==◌, true, false, Bool, List, length, Option, Some}
 use Rattle.std.proofs.Common.{None, refl, arith}
 use Rattle.std.proofs.Common.{IfSome, IsSomeAnd}
 use Rattle.std.proofs.lemmas.Bool.Decides.{nat_tests}

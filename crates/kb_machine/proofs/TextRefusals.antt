@@ -1,5 +1,5 @@
 -- The refusal of a text, as its own rule says it and as the machine does.
-use Rattle.std.proofs.Common.{◌≡◌, ℕ, refl, sym, subst, Result, IfErr, Option}
+use Rattle.std.proofs.Common.{◌≡◌, ℕ, refl, Result, IfErr}
 use Rattle.kb_codec.specs.declared.command.Command.{Command}
 use Rattle.kb_codec.specs.declared.command.Command.TheVariants as kinds
 use Rattle.kb_codec.specs.declared.command.Catalog.{Catalog}

@@ -1,5 +1,5 @@
 -- What a history of commands leads to.
-use Rattle.std.specs.Prelude.{ℕ, ◌≡◌, true, List, [], ◌∷◌, ⊤}
+use Rattle.std.specs.Prelude.{◌≡◌, true, [], ◌∷◌, ⊤}
 use Rattle.std.specs.List.{fold}
 use Rattle.kb_log.specs.Entries.{Entry, History}
 use Rattle.kb_machine.specs.Judged.{after_judged, is_new}

@@ -17,7 +17,7 @@ use Rattle.kb_book.specs.Steps.{Outcome, accepted_over, step}
 use Rattle.kb_account.specs.Prepares.{is_kept_command, opening_book}
 use Rattle.kb_reply.specs.declared.reply.LaneReply.{LaneReply}
 use Rattle.kb_reply.specs.declared.reply.LaneReply.TheVariants as replies
-use Rattle.kb_machine.specs.Judged.{Judged, New, Again, Refused, unless_refused, lifted, after_judged}
+use Rattle.kb_machine.specs.Judged.{Judged, New, Again, Refused, unless_refused, lifted}
 use Rattle.kb_machine.specs.Texts.{TextsValue, no_texts, catalog_judged, overdue_judged}
 
 -- the texts, and the books of the accounts, by their names

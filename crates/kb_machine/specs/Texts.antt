@@ -1,7 +1,7 @@
 -- The texts of a lane, and what becomes of one that is handed in.
-use Rattle.std.specs.Prelude.{ℕ, ◌+◌, ◌-◌, ◌==◌, ◌≡◌, Bool, true, false, nat_le, bytes_eq, List, [], ◌∷◌}
+use Rattle.std.specs.Prelude.{ℕ, ◌+◌, ◌-◌, ◌==◌, Bool, false, nat_le, bytes_eq, List, [], ◌∷◌}
 use Rattle.std.specs.Prelude.{◌++◌, length}
-use Rattle.std.specs.Prelude.{slice_get, Option, Some, None, if◌then◌else◌, refl}
+use Rattle.std.specs.Prelude.{slice_get, Option, Some, None, if◌then◌else◌}
 use Rattle.std.specs.FinMap.{find, put}
 use Rattle.kb_sharing.specs.Keys.{by_words}
 use Rattle.kb_catalog.specs.declared.version.Version.{Version}

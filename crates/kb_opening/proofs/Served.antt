@@ -1,6 +1,6 @@
 -- Lanes whose gateways serve them.
 use Rattle.std.proofs.Common.{◌≡◌, ◌⊎◌, ◌+◌, ℕ, List, [], ◌∷◌, ◌++◌, length, Some, inl, inr, Result, Ok, Err}
-use Rattle.std.proofs.Common.{OnOk, ap, sym, subst, ◌∙◌}
+use Rattle.std.proofs.Common.{OnOk, sym, subst}
 use Rattle.std.specs.List.{slice_get}
 use Rattle.kb_lane.specs.Lanes.{LaneValue}
 use Rattle.kb_opening.specs.Openings.{AreServed}

@@ -1,5 +1,5 @@
 //! Accounts over all lanes, by name.
-ghost use Rattle.std.specs.Prelude.{◌≡◌, ◌++◌, ◌≤◌, ◌<◌, ◌^◌, map, length, IfOk, OnOk};
+ghost use Rattle.std.specs.Prelude.{◌≡◌, ◌++◌, ◌≤◌, ◌<◌, map, length, IfOk, OnOk};
 ghost use Rattle.kb_lane.specs.Lanes.{machine_of};
 ghost use Rattle.kb_reports.specs.Listings.{IsListing, accounts_from, accounts_in};
 ghost use Rattle.kb_reports.specs.Private.Collecting.{listed_in};

@@ -1,6 +1,6 @@
 -- A line asks for commands of callers alone.
 use Rattle.std.proofs.Common.{◌≡◌, Bool, true, false, List, ℕ, Option, None, Some, Result, Ok, Err, IfOk}
-use Rattle.std.proofs.Common.{refl, sym, subst, ◌∙◌, if◌then◌else◌}
+use Rattle.std.proofs.Common.{refl, sym, subst, if◌then◌else◌}
 use Rattle.serde_json.specs.Data.{Data, Members}
 use Rattle.serde_json.specs.Find.{as_object}
 use Rattle.kb_catalog.specs.declared.version.Version.{Version}

@@ -3,7 +3,6 @@ ghost use Rattle.std.specs.Prelude.{◌≡◌, if◌then◌else◌};
 ghost use Rattle.serde_json.specs.View.{view, members_view};
 ghost use Rattle.kb_request.specs.Wrongs.{has_type, wrong_of_type, wrong_in, wrong_needed, wrong_optional};
 ghost use Rattle.kb_request.specs.Wrongs.{told_first, told_of, wrong_today, first_wrong};
-ghost use Rattle.kb_request.specs.Table.{members_of};
 
 use crate::kind::Kind;
 use crate::member::{Member, Sort};

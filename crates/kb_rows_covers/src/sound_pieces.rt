@@ -1,5 +1,5 @@
 //! Whether pieces are such as a cover may be made right by.
-ghost use Rattle.std.specs.Prelude.{◌≡◌, map, All, IsTrue};
+ghost use Rattle.std.specs.Prelude.{map, All, IsTrue};
 ghost use Rattle.kb_days.specs.Calendar.{end_of_days};
 ghost use Rattle.kb_due.specs.CellStretches.{stretch_of, IsInCell};
 ghost use Rattle.kb_tree.specs.Covers.{AreInOrder, ArePieces};

@@ -1,6 +1,6 @@
 -- Each step keeps an account within what so many steps make of it.
-use Rattle.std.proofs.Common.{◌≡◌, ℕ, ◌+◌, ◌-◌, ◌*◌, ◌^◌, ◌≤◌, List, [], ◌∷◌, ℤ, pos}
-use Rattle.std.proofs.Common.{nat_abs, length, arith, length-append}
+use Rattle.std.proofs.Common.{◌≡◌, ℕ, ◌+◌, ◌-◌, ◌^◌, ◌≤◌, [], ◌∷◌, ℤ, pos}
+use Rattle.std.proofs.Common.{nat_abs, arith, length-append}
 use Rattle.kb_sharing.specs.Sums.{sum_of}
 use Rattle.kb_credit.specs.declared.row.Row.{Row}
 use Rattle.kb_credit.specs.declared.line.Line.{Line}

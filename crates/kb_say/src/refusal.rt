@@ -1,5 +1,5 @@
 //! The numbers and names of refusals.
-ghost use Rattle.std.specs.Prelude.{◌≡◌, ◌≤◌};
+ghost use Rattle.std.specs.Prelude.{◌≡◌};
 ghost use Rattle.kb_say.specs.Refusals.{refusal_number, refusal_name};
 
 use kb_book::Refusal;

@@ -1,9 +1,8 @@
 -- Entries in order have different keys.
-use Rattle.std.proofs.Common.{ℕ, suc, ◌≡◌, arith, Bool, ◌&&◌, List, [], ◌∷◌, map, All, AllPairs, T, sym, ap}
+use Rattle.std.proofs.Common.{ℕ, suc, ◌≡◌, arith, List, [], ◌∷◌, map, All, AllPairs, T, sym, ap}
 use Rattle.std.proofs.Common.{subst, ◌∙◌}
 use Rattle.std.proofs.lemmas.List.Elements.{All-nil, All-cons, All-map}
 use Rattle.std.proofs.lemmas.List.Kept.{AllPairs-cons}
-use Rattle.std.specs.declared.cmp.Ordering.TheVariants.{Less, Equal}
 use Rattle.std.specs.Ordering.{is_lt}
 use Rattle.std.specs.FinMap.Entries.{is_sorted, below_all}
 use Rattle.std.specs.Cmp.{tied_itself}

@@ -1,12 +1,12 @@
 -- Lists of full chunks and a shorter tail: where their members are, and that edits leave them so.
-use Rattle.std.proofs.Common.{ℕ, suc, ◌≡◌, ◌+◌, ◌-◌, ◌*◌, ◌/◌, ◌%◌, ◌<◌, ◌≤◌, List, [], ◌∷◌, ◌++◌, length}
+use Rattle.std.proofs.Common.{ℕ, ◌≡◌, ◌+◌, ◌-◌, ◌*◌, ◌/◌, ◌%◌, ◌<◌, ◌≤◌, List, [], ◌∷◌, ◌++◌, length}
 use Rattle.std.proofs.Common.{slice_get, set, Some, None, arith, length-append, append-nil, append_assoc}
 use Rattle.std.proofs.Common.{◌∙◌, sym, ap, subst}
 use Rattle.std.proofs.lemmas.List.{set-append_right, length-set, length_push}
 use Rattle.std.proofs.lemmas.List.Elements.{All-nil, All-cons, All-append, All-set}
 use Rattle.std.proofs.lemmas.Nat.{div-add-mod', mod_below, div-mul-add, mod-mul-add, div_below}
 use Rattle.std.proofs.lemmas.Option.{slice_get-get_or}
-use Rattle.kb_sharing.specs.Private.Chunks.{chunk_members, AreChunks, IsChunked}
+use Rattle.kb_sharing.specs.Private.Chunks.{chunk_members, IsChunked}
 use Rattle.kb_sharing.proofs.Places.{slice_get-append_right}
 use Rattle.kb_sharing.proofs.ChunkPlaces.{chunk_members-push, length-chunk_members, length-chunk}
 use Rattle.kb_sharing.proofs.ChunkPlaces.{slice_get-chunk_members, set-chunk_members}

@@ -26,7 +26,7 @@ pub struct SharedMap<K: Key, V> {
 }
 
 impl<K: Key, V> Model for SharedMap<K, V> {
-    ghost use Rattle.std.specs.Prelude.{◌≡◌, List, ℕ, length};
+    ghost use Rattle.std.specs.Prelude.{◌≡◌, length};
     ghost use Rattle.std.specs.Coded.{coded_list, coded_ℕ};
     ghost use Rattle.std.specs.FinMap as map;
     ghost use Rattle.kb_sharing.specs.Keys.{by_words};

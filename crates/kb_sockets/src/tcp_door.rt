@@ -1,6 +1,5 @@
 //! A TCP port where connections come in.
-ghost use Rattle.std.specs.Prelude.{◌≡◌, ◌≤◌, ◌<◌, ◌+◌, None, OnOk};
-ghost use Rattle.kb_base.specs.Faults.{HasCause};
+ghost use Rattle.std.specs.Prelude.{◌≡◌, ◌<◌, ◌+◌, None};
 
 use crate::TcpLink;
 use kb_base::{Failed, FaultCount};

@@ -1,7 +1,6 @@
 //! A connection over TCP.
-ghost use Rattle.std.specs.Prelude.{◌≡◌, ◌≤◌, ◌<◌, None, IfOk, OnOk, length};
+ghost use Rattle.std.specs.Prelude.{◌≡◌, ◌<◌, None, IfOk, length};
 ghost use Rattle.std.specs.Io.{ReadsAtMost, WritesAtMost};
-ghost use Rattle.kb_base.specs.Faults.{HasCause};
 
 use kb_base::{Failed, FaultCount};
 use kb_links::Link;
@@ -23,7 +22,6 @@ pub struct TcpLink {
 }
 
 impl Model for TcpLink {
-    ghost use Rattle.std.specs.Prelude.{ℕ};
     ghost use Rattle.kb_sockets.specs.Counts.{LinkCounts};
 
     ghost Value = { LinkCounts };

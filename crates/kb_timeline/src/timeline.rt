@@ -1,15 +1,14 @@
 //! The subscriptions of an account.
-ghost use Rattle.std.specs.Prelude.{◌≡◌, ◌↔◌, ◌<◌, ◌≤◌, ◌+◌, ◌++◌, ◌∷◌, [], ℕ, true, bytes_eq, List, length};
+ghost use Rattle.std.specs.Prelude.{◌≡◌, ◌↔◌, ◌<◌, ◌+◌, true, length};
 ghost use Rattle.std.specs.Prelude.{map, drop, slice_get, Some, None, Err, All, IsSome, IfOk, IfErr, IfSome};
 ghost use Rattle.std.specs.Prelude.{option_and_then};
-ghost use Rattle.std.specs.List.{position_from};
 ghost use Rattle.std.specs.Arc.{arc_value};
 ghost use Rattle.kb_timeline.specs.declared.entry.Entry.{Entry};
 ghost use Rattle.kb_timeline.specs.declared.subscription.Subscription.{Subscription};
 ghost use Rattle.kb_timeline.specs.EntryDays.{entry_on, is_before_start};
 ghost use Rattle.kb_timeline.specs.TimelineEdits.{IsTimeline, IsLead, no_subscriptions, bundle_named};
 ghost use Rattle.kb_timeline.specs.TimelineEdits.{subscription_named, lead_of, entries_at, with_name};
-ghost use Rattle.kb_timeline.specs.TimelineEdits.{created, create_fault, edited_at, with_edit, changed};
+ghost use Rattle.kb_timeline.specs.TimelineEdits.{created, create_fault, with_edit, changed};
 ghost use Rattle.kb_timeline.specs.TimelineEdits.{change_fault, cancelled, cancel_fault, uncancelled};
 ghost use Rattle.kb_timeline.specs.TimelineEdits.{uncancel_fault};
 

@@ -1,5 +1,5 @@
 //! The cells of bills.
-ghost use Rattle.std.specs.Prelude.{◌≡◌, ◌<◌, ◌≤◌, ◌∷◌, [], ℕ, IfOk, IsSome, length};
+ghost use Rattle.std.specs.Prelude.{◌≡◌, ◌<◌, ◌≤◌, ◌∷◌, [], IfOk};
 ghost use Rattle.std.specs.FinMap as map;
 ghost use Rattle.std.specs.List.Sorted.{IsPartitionPoint};
 ghost use Rattle.kb_due.specs.declared.cell.Cell.{Cell};
@@ -19,7 +19,7 @@ pub(crate) struct Cells {
 }
 
 impl Model for Cells {
-    ghost use Rattle.std.specs.Coded.{codes, coded_list, coded_ℕ};
+    ghost use Rattle.std.specs.Coded.{coded_list, coded_ℕ};
     ghost use Rattle.std.specs.FinMap as map;
     ghost use Rattle.kb_sharing.specs.Keys.{by_words, SharedEntries};
     ghost use Rattle.kb_due.specs.contracts.cell.Cell as cell_type;

@@ -1,5 +1,5 @@
 //! Options as they were given, and whether a command takes them.
-ghost use Rattle.std.specs.Prelude.{◌≡◌, map, option_map};
+ghost use Rattle.std.specs.Prelude.{◌≡◌, option_map};
 ghost use Rattle.std.specs.List.{list_all, list_any};
 ghost use Rattle.kb_words.specs.Commands.{same_setting};
 ghost use Rattle.kb_words.specs.Options.{are_options_of, is_among, is_settled, stand_once, value_of};

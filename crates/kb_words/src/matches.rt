@@ -1,9 +1,9 @@
 //! Words given to `clap`.
-ghost use Rattle.std.specs.Prelude.{◌≡◌, ◌≢◌, [], map, string_bytes, take, false, Err, IfOk};
+ghost use Rattle.std.specs.Prelude.{◌≡◌, ◌≢◌, [], map, string_bytes, false, Err, IfOk};
 ghost use Rattle.clap.specs.Words.{app_of, kind_of, rule_of};
 ghost use Rattle.clap.specs.declared.error.kind.ErrorKind.TheVariants.{OutOfMemory};
 ghost use Rattle.kb_words.specs.declared.read.WordsFault.TheVariants.{Words};
-ghost use Rattle.kb_words.specs.Private.Parsed.{HasValues, app_for, app_with, faults_of, rule_for};
+ghost use Rattle.kb_words.specs.Private.Parsed.{HasValues, app_for, faults_of, rule_for};
 
 use crate::read::WordsFault;
 use crate::setting::Setting;

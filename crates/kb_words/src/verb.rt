@@ -1,5 +1,5 @@
 //! The commands.
-ghost use Rattle.std.specs.Prelude.{◌≡◌, Option, Some};
+ghost use Rattle.std.specs.Prelude.{◌≡◌, Option};
 ghost use Rattle.kb_words.specs.Commands.{settings_of, verb_of, verb_word};
 
 use crate::setting::Setting;

@@ -1,5 +1,5 @@
 //! Options written anew, in one order and one spelling.
-ghost use Rattle.std.specs.Prelude.{◌≡◌, ◌++◌, ◌∷◌, [], map, string_bytes, IfOk, OnOk};
+ghost use Rattle.std.specs.Prelude.{◌≡◌, map, string_bytes, IfOk};
 ghost use Rattle.kb_words.specs.Private.Written.{spelled, written_of};
 ghost use Rattle.kb_words.specs.Options.{value_of};
 

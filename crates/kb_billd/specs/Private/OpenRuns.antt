@@ -1,5 +1,5 @@
 -- Runs of lanes that are open.
-use Rattle.std.specs.Prelude.{ℕ, ◌≡◌, false, List, Result}
+use Rattle.std.specs.Prelude.{ℕ, false, List, Result}
 use Rattle.kb_lane.specs.Lanes.{LaneValue}
 use Rattle.kb_lines.specs.Reading.{Known}
 use Rattle.kb_apply.specs.declared.apply.ApplyStop.{ApplyStop}

@@ -1,5 +1,5 @@
 //! `make`: accounts made from a seed, in memory.
-ghost use Rattle.std.specs.Prelude.{◌≡◌, ◌≤◌, ◌<◌, ◌^◌, Err};
+ghost use Rattle.std.specs.Prelude.{◌≡◌, ◌≤◌, ◌<◌, Err};
 ghost use Rattle.kb_base.specs.Faults.{Rose};
 ghost use Rattle.kb_lines.specs.declared.stop.Stop.TheVariants.{Input, Output};
 ghost use Rattle.kb_endings.specs.declared.stop.Stop.TheVariants as stops;

@@ -1,7 +1,6 @@
 //! The trees of a list, from the last one on.
 ghost use Rattle.std.specs.Prelude.{◌≡◌, ◌<◌, ◌+◌, ◌-◌, ◌^◌, ◌*◌, ◌++◌, ◌∷◌, [], length, set};
 ghost use Rattle.std.specs.Prelude.{slice_get, option_copied, IfOk};
-ghost use Rattle.std.specs.Arc.{arc_value};
 ghost use Rattle.kb_sharing.specs.Private.Trees.{spine_members, IsSpine};
 
 use super::tree::Tree;

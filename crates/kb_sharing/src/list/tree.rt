@@ -1,7 +1,6 @@
 //! The trees of a list: each has 1, 3, 7 .. members.
-ghost use Rattle.std.specs.Prelude.{◌≡◌, ◌<◌, ◌+◌, ◌*◌, ◌++◌, ◌∷◌, [], length, set};
+ghost use Rattle.std.specs.Prelude.{◌≡◌, ◌<◌, set};
 ghost use Rattle.std.specs.Prelude.{slice_get, option_copied, IfOk};
-ghost use Rattle.std.specs.Arc.{arc_value};
 ghost use Rattle.kb_sharing.specs.Private.Trees.{tree_members, IsSized};
 
 use kb_base::NoMemory;

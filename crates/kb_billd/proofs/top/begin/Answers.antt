@@ -1,4 +1,4 @@
-use Rattle.std.proofs.Common.{◌≡◌, inl, inr, refl, subst, sym, map, string_bytes}
+use Rattle.std.proofs.Common.{inl, subst, sym}
 use Rattle.kb_apply.specs.LaneRuns.{outside_of}
 use Rattle.kb_opening.specs.Folders.{told_of, words_of}
 use Rattle.kb_billd.specs.TopCall.{alone, around_of, Does}

@@ -1,4 +1,4 @@
-use Rattle.std.proofs.Common.{◌≡◌, sym, ◌∙◌}
+use Rattle.std.proofs.Common.{sym, ◌∙◌}
 use Rattle.kb_log.proofs.Payloads.{front_payload, rest_payload, both_there}
 use Rattle.kb_log.proofs.payload.read_payload.Goals as goal
 

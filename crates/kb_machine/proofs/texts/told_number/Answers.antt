@@ -1,4 +1,4 @@
-use Rattle.std.proofs.Common.{◌≡◌, Some}
+use Rattle.std.proofs.Common.{Some}
 use Rattle.std.specs.FinMap.{find, entries}
 use Rattle.kb_sharing.specs.Keys.{by_words}
 use Rattle.kb_machine.proofs.KeptTexts.{text_found, told_again, told_refused}

@@ -1,8 +1,6 @@
-use Rattle.std.proofs.Common.{◌≡◌, Err, inr, length, sym, ◌∙◌}
-use Rattle.kb_lines.specs.declared.stop.Stop.TheVariants as runs
+use Rattle.std.proofs.Common.{inr, length, sym, ◌∙◌}
 use Rattle.kb_opening.specs.Folders.{told_of, words_of}
 use Rattle.kb_opening.proofs.Closing.{are_out}
-use Rattle.kb_endings.specs.declared.stop.Stop.TheVariants as stops
 use Rattle.kb_billd.specs.Reports.{said_by}
 use Rattle.kb_billd.proofs.Reported.{printing_no_input, printing_output, reports_lanes}
 use Rattle.kb_billd.proofs.command.report.report_folder.Goals as goal

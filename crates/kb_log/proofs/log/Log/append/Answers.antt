@@ -1,10 +1,8 @@
-use Rattle.std.proofs.Common.{◌≡◌, ℕ, List, Bool, true, false, refl, sym, ap, ◌∙◌, ◌+◌, [], ◌∷◌, ◌++◌, Result}
-use Rattle.std.proofs.Common.{Ok, Err, IsErrOf}
-use Rattle.kb_journal.specs.declared.fault.AppendFault.{AppendFault}
+use Rattle.std.proofs.Common.{◌≡◌, false, refl, ap, ◌∙◌, ◌+◌, [], ◌∷◌, ◌++◌}
+use Rattle.std.proofs.Common.{Err}
 use Rattle.kb_journal.specs.declared.fault.AppendFault.TheVariants.{Stopped, Full, DiskFault}
-use Rattle.kb_log.specs.Logs.{LogValue}
 use Rattle.kb_log.proofs.Marks.{marked_log}
-use Rattle.kb_log.proofs.Outcomes.{running, roomy, fault_isnt_stopped, fault_isnt_full, full_isnt_stopped}
+use Rattle.kb_log.proofs.Outcomes.{running, roomy, fault_isnt_stopped, fault_isnt_full}
 use Rattle.kb_log.proofs.log.Log.append.Goals as goal
 
 pub invariant_of-self-in-Err-DiskFault : goal.invariant_of-self-in-Err-DiskFault

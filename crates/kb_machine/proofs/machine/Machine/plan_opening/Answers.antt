@@ -1,4 +1,4 @@
-use Rattle.std.proofs.Common.{◌≡◌, ◌<◌, length, arith}
+use Rattle.std.proofs.Common.{◌<◌, length, arith}
 use Rattle.kb_machine.specs.Machines.{max_accounts}
 use Rattle.kb_machine.proofs.Openings.{opened_account}
 use Rattle.kb_machine.proofs.machine.Machine.plan_opening.Goals as goal

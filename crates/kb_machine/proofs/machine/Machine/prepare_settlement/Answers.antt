@@ -1,8 +1,8 @@
 -- The account is there, and its book takes the settlement, and is billed.
-use Rattle.std.proofs.Common.{rules, ◌≡◌, Some, Ok, refl, subst}
+use Rattle.std.proofs.Common.{rules, ◌≡◌, Ok, refl, subst}
 use Rattle.kb_laws.specs.BilledBooks.{IsBilled}
 use Rattle.kb_book.specs.Steps.{step}
-use Rattle.kb_machine.specs.Machines.{MachineValue, book_of}
+use Rattle.kb_machine.specs.Machines.{MachineValue}
 use Rattle.kb_machine.proofs.Settled.{judged-settled}
 use Rattle.kb_machine.proofs.machine.Machine.prepare_settlement.Goals as goal
 

@@ -1,6 +1,5 @@
 -- In which chunk the member is, or that it is in the tail.
-use Rattle.std.proofs.Common.{◌≡◌, ◌/◌, slice_get, option_copied, Some, None, ◌∙◌, sym, ap}
-use Rattle.kb_sharing.specs.Private.Trees.{spine_members}
+use Rattle.std.proofs.Common.{slice_get, option_copied, ◌∙◌, sym, ap}
 use Rattle.kb_sharing.proofs.ChunkedLists.{is_there, slice_get-in_chunk, slice_get-in_tail}
 use Rattle.kb_sharing.proofs.list.SharedList.get.Goals as goal
 

@@ -1,5 +1,5 @@
 -- How many chunks there are, and that the longer list lies in chunks.
-use Rattle.std.proofs.Common.{◌≡◌, ◌+◌, ◌<◌, ◌++◌, ◌∷◌, [], length, sym, subst, ap, ◌∙◌, arith, rules}
+use Rattle.std.proofs.Common.{◌≡◌, ◌+◌, ◌<◌, ◌++◌, ◌∷◌, [], length, subst, ap, arith, rules}
 use Rattle.std.proofs.lemmas.List.{length_push}
 use Rattle.kb_sharing.proofs.ChunkedLists.{count-is, IsChunked-push, IsChunked-full}
 use Rattle.kb_sharing.proofs.list.SharedList.push.Goals as goal

@@ -1,5 +1,5 @@
 -- In which chunk the member is, or that it is in the tail, and that the list lies in chunks afterwards.
-use Rattle.std.proofs.Common.{◌≡◌, ◌<◌, ◌/◌, ◌%◌, length, set, option_copied, ◌∙◌, sym, subst, ap, arith}
+use Rattle.std.proofs.Common.{◌<◌, length, set, option_copied, ◌∙◌, sym, subst, ap, arith}
 use Rattle.std.proofs.lemmas.Option.{slice_get_within}
 use Rattle.kb_sharing.proofs.ChunkPlaces.{length-chunk}
 use Rattle.kb_sharing.proofs.ChunkedLists.{is_there, lt-tail, set-in_chunk, set-in_tail, IsChunked-chunk}
