@@ -7,6 +7,7 @@ use crate::compare::same;
 use crate::lanes::{TestLane, again, count_of, empty, journal, performed, put, stuck_at, told};
 use kb_catalog_text::{read, read_overdue};
 use kb_codec::{Catalog, Command, OverdueRules};
+use kb_days::Name;
 use kb_disk::MemoryDisk;
 use kb_journal::Journal;
 use kb_samples::{OVERDUE, SHOP, day, name};
@@ -218,7 +219,18 @@ fn hold_texts_on(rt: &impl Abort, alloc: Global, lane: &mut TestLane) -> Result<
 /// The reply to the shop's catalog text under a key.
 fn after_catalog(alloc: Global, lane: &mut TestLane, key: &str) -> Result<String, Fail> {
     let key = name(key)?;
-    match read(alloc, SHOP.as_bytes().to_vec(alloc)?) {
+    let text = SHOP.as_bytes().to_vec(alloc)?;
+    after_text(alloc, lane, key, text)
+}
+
+/// The reply to a catalog text under a key.
+fn after_text(
+    alloc: Global,
+    lane: &mut TestLane,
+    key: Name,
+    text: Vec<u8>,
+) -> Result<String, Fail> {
+    match read(alloc, text) {
         Ok(text) => performed(lane, alloc, &Command::Catalog(Catalog { key, text })),
         Err(_) => Err("a text".into()),
     }
@@ -258,19 +270,19 @@ fn hold_versions(rt: &impl Abort, alloc: Global, lane: &mut TestLane) -> Result<
 
 /// The reply to the shop's catalog text, from the first day of a year on, under a key of its own.
 fn after_version(alloc: Global, lane: &mut TestLane, number: u32) -> Result<String, Fail> {
-    let year = number.saturating_add(2000);
+    let key = numbered(alloc, number)?;
+    let text = shop_from(alloc, number.saturating_add(2000))?;
+    after_text(alloc, lane, key, text.into_bytes())
+}
+
+/// The key of this number.
+fn numbered(alloc: Global, number: u32) -> Result<Name, Fail> {
     let key = format!(in alloc; "k{number}")?;
+    Ok(name(&key)?)
+}
+
+/// The shop's catalog text, from the first day of a year on.
+fn shop_from(alloc: Global, year: u32) -> Result<String, Fail> {
     let (before, behind) = SHOP.split_once("2020-01-01").ok_or("no day")?;
-    let text = format!(in alloc; "{before}{year}-01-01{behind}")?;
-    match read(alloc, text.into_bytes()) {
-        Ok(text) => performed(
-            lane,
-            alloc,
-            &Command::Catalog(Catalog {
-                key: name(&key)?,
-                text,
-            }),
-        ),
-        Err(_) => Err("a text".into()),
-    }
+    Ok(format!(in alloc; "{before}{year}-01-01{behind}")?)
 }
