@@ -1,12 +1,13 @@
 //! Runs of the program.
+ghost use Rattle.std.specs.Prelude.{◌≡◌, ℕ, false, List};
 ghost use Rattle.kb_rows_billd.specs.Insides.{AllInside};
 
 use kb_billd::billd;
-use kb_clock::FixedClock;
-use kb_gateway::ListMarket;
-use kb_ports::{BytesSink, BytesSource};
+use kb_clock::{Clock, FixedClock};
+use kb_gateway::{ListMarket, Market};
+use kb_ports::{BytesSink, BytesSource, Sink, Source};
 use kb_samples::day;
-use kb_vault::MemoryVault;
+use kb_vault::{MemoryVault, Vault};
 use std::alloc::{AllocError, Global};
 use std::test::Fail;
 
@@ -32,7 +33,7 @@ pub(crate) fn run_between(
     vault: &mut MemoryVault,
     market: &mut ListMarket,
     words: &str,
-    input: BytesSource,
+    mut input: BytesSource,
     mut output: BytesSink,
 ) -> Result<(u8, String), Fail>
     requires inside { AllInside vault.old }
@@ -40,26 +41,26 @@ pub(crate) fn run_between(
 {
     let words = words_of(alloc, words)?;
     let clock = FixedClock::new(day("2024-03-01")?);
-    let status = call(alloc, &words, input, &mut output, vault, market, clock);
+    let status = call(alloc, &words, &mut input, &mut output, vault, market, clock);
     let text = str::from_utf8(output.bytes()).unwrap_or("?");
     Ok((status, text.to_string(alloc)?))
 }
 
-/// Calls the program.
+/// Calls the program. Of all that it promises, rows need only that no lane stays out.
 #[tactic(auto, using(crate::proofs::Insides::still_inside))]
-fn call(
+fn call<I: Source, O: Sink, V: Vault, M: Market, C: Clock + Drop>(
     alloc: Global,
     words: &Vec<String>,
-    mut input: BytesSource,
-    output: &mut BytesSink,
-    vault: &mut MemoryVault,
-    market: &mut ListMarket,
-    clock: FixedClock,
+    input: &mut I,
+    output: &mut O,
+    vault: &mut V,
+    market: &mut M,
+    clock: C,
 ) -> u8
-    requires inside { AllInside vault.old }
-    ensures inside { AllInside vault.new }
+    requires inside { (folder : List ℕ) (lane : ℕ) → V.is_out vault.old folder lane ≡ false }
+    ensures inside { (folder : List ℕ) (lane : ℕ) → V.is_out vault.new folder lane ≡ false }
 {
-    billd(alloc, words, &mut input, output, vault, market, clock)
+    billd(alloc, words, input, output, vault, market, clock)
 }
 
 /// Words that stand with one blank between, where `''` is a word without a byte.
