@@ -43,8 +43,8 @@ due-left world book today (kinds.Settle c) leaves = refl
 due-left world book today (kinds.Overdue c) leaves = absurd (cc)
 
 -- so what is issued for the book is issued with such a command
-pub issue-left : (world : WorldValue) (book edited : BookValue) (today : ℕ) (command : Command) (issue : Issue)
-    → leaves_due command ≡ true → edited ≡ begun world book today command
+pub issue-left : (world : WorldValue) (book edited : BookValue) (today : ℕ) (command : Command)
+    (issue : Issue) → leaves_due command ≡ true → edited ≡ begun world book today command
     → IsIssueOf world book issue → IsIssueOf world edited issue
 issue-left world book edited today command issue leaves edit is = record {
   over =

@@ -139,7 +139,8 @@ module _ {D G C : Type 0} (honest : D → Bool) (seen : D → List ℕ) (images 
           rose any = let found = stopped_at run.last.lanes any in
               run.back.stopped found.0 found.1 found.2 found.3
 
-      pub runs_lanes : (serves : G → ℕ → Type 0) → AreServed serves first → 1 ≤ length first → length first ≤ 64
+      pub runs_lanes : (serves : G → ℕ → Type 0) → AreServed serves first → 1 ≤ length first
+          → length first ≤ 64
           → ((lane : ℕ) → old.is_out folder lane ≡ false)
           → RunsLanes words outside serves folder clock old new left left_after written written_after outcome
       runs_lanes serves served some few inside = record {

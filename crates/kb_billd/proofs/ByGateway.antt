@@ -9,8 +9,9 @@ use Rattle.kb_billd.specs.Runs.{AppliesFolder}
 use Rattle.kb_billd.specs.TopCall.{AppliesBy, around_of}
 
 module _ {D G N C : Type 0} (disks : DiskWords D) (outside : Outside D G C) (alone : Outside D N C)
-    (serves : G → List ℕ → ℕ → Type 0) (folder : List ℕ) (clock : C) (left left_after written written_after : Known)
-    (old new : VaultTold) (market market_after : ℕ) (outcome : Result (Unit {0}) Stop) (named : Option (List ℕ)) where
+    (serves : G → List ℕ → ℕ → Type 0) (folder : List ℕ) (clock : C)
+    (left left_after written written_after : Known) (old new : VaultTold) (market market_after : ℕ)
+    (outcome : Result (Unit {0}) Stop) (named : Option (List ℕ)) where
   -- with those of a market
   pub by_market : (name : List ℕ) → named ≡ Some name
       → AppliesFolder disks outside (λ gateway place. serves gateway name place) folder clock old new market
@@ -18,8 +19,8 @@ module _ {D G N C : Type 0} (disks : DiskWords D) (outside : Outside D G C) (alo
       → AppliesBy disks outside alone serves folder clock (around_of left written old market)
       (around_of left_after written_after new market_after) outcome named
   by_market name is applies = subst (AppliesBy disks outside alone serves folder clock
-      (around_of left written old market) (around_of left_after written_after new market_after) outcome) (sym is)
-      applies
+      (around_of left written old market) (around_of left_after written_after new market_after) outcome)
+      (sym is) applies
 
   -- or with none
   pub by_none : named ≡ None → market_after ≡ market
@@ -28,5 +29,5 @@ module _ {D G N C : Type 0} (disks : DiskWords D) (outside : Outside D G C) (alo
       → AppliesBy disks outside alone serves folder clock (around_of left written old market)
       (around_of left_after written_after new market_after) outcome named
   by_none is same applies = subst (AppliesBy disks outside alone serves folder clock
-      (around_of left written old market) (around_of left_after written_after new market_after) outcome) (sym is)
-      (same, applies)
+      (around_of left written old market) (around_of left_after written_after new market_after) outcome)
+      (sym is) (same, applies)

@@ -28,7 +28,7 @@ use Rattle.kb_lane.specs.Lanes.{LaneValue}
 use Rattle.kb_attempts.specs.Attempts.{attempt_in}
 use Rattle.kb_lane.specs.Asking.{asked_for, attempt_asked}
 use Rattle.kb_works.specs.Orders.{order_for, order_in, order_of, settled_by}
-use Rattle.kb_works.specs.Settlements.{fault_step}
+use Rattle.kb_works.specs.Private.Settlements.{fault_step}
 use Rattle.kb_works.proofs.Settled.{some-same}
 use Rattle.kb_lane.specs.Draining.{with_outbox, Writes, Accepts, Asks, Orders}
 use Rattle.kb_lane.specs.Private.Runs.{SettlesNone, IsBusy}

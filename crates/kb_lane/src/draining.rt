@@ -10,7 +10,7 @@ ghost use Rattle.kb_machine.specs.Machines.{judged};
 ghost use Rattle.kb_works.specs.declared.work.Work.{Work as AnyWork};
 ghost use Rattle.kb_works.specs.declared.work.Work.TheVariants as works;
 ghost use Rattle.kb_works.specs.Orders.{order_of};
-ghost use Rattle.kb_works.specs.Settlements.{AreReady};
+ghost use Rattle.kb_works.specs.Private.Settlements.{AreReady};
 ghost use Rattle.kb_lane.specs.Lanes.{StandsThroughout, StaysItself, machine_of};
 ghost use Rattle.kb_lane.specs.LaneWork.{lane_work};
 ghost use Rattle.kb_lane.specs.Draining.{due_of, Looks, Asks, Orders, Writes, IsWritten};

@@ -19,9 +19,9 @@ use std::alloc::Global;
 use std::collections::VecDeque;
 
 impl<D: Disk, G: Gateway + Drop> Lane<D, G> {
-    /// The lane of this number on a disk: its history is the list of commands that the bytes stand for, each new
-    /// to those before it, and its outbox is empty. The disk is synced first, and nothing is written. A fault
-    /// gives the disk and the gateway back.
+    /// The lane of this number on a disk: its history is the list of commands that the bytes stand for, each
+    /// new to those before it, and its outbox is empty. The disk is synced first, and nothing is written. A
+    /// fault gives the disk and the gateway back.
     pub fn load(
         alloc: Global,
         disk: D,

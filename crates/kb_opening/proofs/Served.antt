@@ -23,15 +23,15 @@ module _ {D G : Type 0} (serves : G → ℕ → Type 0) where
 
   -- one lane more is open
   pub one_more_served : (lanes more : List (LaneValue D G)) (lane : LaneValue D G) (number : ℕ)
-      → more ≡ lanes ++ lane ∷ [] → length lanes ≡ number → serves lane.gateway number → AreServed serves lanes
-      → AreServed serves more
+      → more ≡ lanes ++ lane ∷ [] → length lanes ≡ number → serves lane.gateway number
+      → AreServed serves lanes → AreServed serves more
   one_more_served lanes more lane number is next served before =
       subst (AreServed serves) (sym is)
       (snoc lanes lane before (subst (λ (n : ℕ). serves lane.gateway n) (sym next) served))
 
   -- where it could be added
-  pub one_more_served_in : {A E : Type 0} (lanes more : List (LaneValue D G)) (lane : LaneValue D G) (number : ℕ)
-      (result : Result A E) → OnOk result (more ≡ lanes ++ lane ∷ []) → length lanes ≡ number
+  pub one_more_served_in : {A E : Type 0} (lanes more : List (LaneValue D G)) (lane : LaneValue D G)
+      (number : ℕ) (result : Result A E) → OnOk result (more ≡ lanes ++ lane ∷ []) → length lanes ≡ number
       → serves lane.gateway number → AreServed serves lanes → OnOk result (AreServed serves more)
   one_more_served_in lanes more lane number (Ok done) is next served before =
       one_more_served lanes more lane number is next served before

@@ -7,7 +7,7 @@ use Rattle.kb_machine.specs.Judged.{New}
 use Rattle.kb_machine.specs.Machines.{MachineValue, judged}
 use Rattle.kb_machine.specs.Histories.{replay}
 use Rattle.kb_machine.proofs.Replays.{replay_new, fresh_new}
-use Rattle.kb_records.specs.Replays.{IsReplay}
+use Rattle.kb_records.specs.Private.Replays.{IsReplay}
 use Rattle.kb_records.proofs.Places.{next_place}
 
 pub grows : (machine after : MachineValue) (history : History) (today : ℕ) (command : Command)

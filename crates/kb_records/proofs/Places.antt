@@ -5,7 +5,7 @@ use Rattle.std.proofs.lemmas.List.{map-append}
 use Rattle.kb_journal.specs.Format.{blocks, framed}
 use Rattle.kb_journal.proofs.Bodies.{blocks-push}
 use Rattle.kb_log.specs.Entries.{Entry, History, payload, payloads}
-use Rattle.kb_records.specs.Replays.{place_of}
+use Rattle.kb_records.specs.Private.Replays.{place_of}
 
 pub no_place : 16 ≡ place_of []
 unfolding blocks

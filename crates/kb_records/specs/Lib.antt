@@ -1,2 +1,2 @@
 pub mod StuckRecords
-pub mod Replays
+pub mod Private

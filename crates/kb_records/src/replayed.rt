@@ -3,7 +3,7 @@ ghost use Rattle.std.specs.Prelude.{◌≡◌, [], IfOk, IfErr};
 ghost use Rattle.kb_log.specs.Entries.{Entry, IsEntry, payload, payloads};
 ghost use Rattle.kb_machine.specs.Machines.{no_machine};
 ghost use Rattle.kb_machine.specs.Histories.{replay, AreNewFrom};
-ghost use Rattle.kb_records.specs.Replays.{Adds, IsUnreplayed, place_of};
+ghost use Rattle.kb_records.specs.Private.Replays.{Adds, IsUnreplayed, place_of};
 
 use kb_base::NoMemory;
 use kb_book::Unprepared;
@@ -27,7 +27,7 @@ pub struct Replayed {
 
 impl Model for Replayed {
     ghost use Rattle.kb_log.specs.Entries.{History};
-    ghost use Rattle.kb_records.specs.Replays.{IsReplay};
+    ghost use Rattle.kb_records.specs.Private.Replays.{IsReplay};
 
     ghost Value = { History };
 

@@ -64,7 +64,8 @@ among-more : (number : ℕ) (bill : NumberedCell) (later : List NumberedCell)
     ≡ (if number == bill.0 then Some bill.1 else cell_among number later)
 unfolding cell_among
 among-more number bill later =
-    ap (λ same. cond same (Some bill.1) (find by_words (number ∷ []) (worded later))) (words_tie number bill.0)
+    ap (λ same. cond same (Some bill.1) (find by_words (number ∷ []) (worded later)))
+    (words_tie number bill.0)
 
 -- no bill has a number below all of them
 among-above : (number : ℕ) (bills : List NumberedCell)
@@ -89,7 +90,8 @@ among-at : (number : ℕ) (bills : List NumberedCell) (place : ℕ) → IsRising
     → AllWithin (λ (bill : NumberedCell). number ≤ bill.0) bills place (length bills)
     → cell_among number bills ≡ cell_if number (slice_get bills place)
 unfolding cell_among
-among-at number [] place rising below above = ap (cell_if number) (sym (slice_get_past [] place (omega arith)))
+among-at number [] place rising below above =
+    ap (cell_if number) (sym (slice_get_past [] place (omega arith)))
 among-at number (bill ∷ later) zero rising below above =
     among-more number bill later ∙ elim (cases_Bool (number == bill.0)) [
       | inl same ↦ rw same refl
@@ -134,15 +136,16 @@ module _ (number : ℕ) (bills : List NumberedCell) (place : ℕ) (rising : IsRi
       get-at ∙ ap (cell_if number) there ∙ cond-false (number == bill.0) _ _ (ne_eqb number bill.0 other)
 
 -- a number above those of all bills has no cell
-higher-none : (bills : List NumberedCell) (number : ℕ) → AreBelow (map_of.from_entries {R = by_words} (worded bills)) number
-    → cell_among number bills ≡ None
+higher-none : (bills : List NumberedCell) (number : ℕ)
+    → AreBelow (map_of.from_entries {R = by_words} (worded bills)) number → cell_among number bills ≡ None
 unfolding cell_among
 higher-none bills number higher =
     elim (cell_among number bills) as (λ found. cell_among number bills ≡ found → found ≡ None) [
       | None ↦ λ is. refl
       | Some cell ↦ λ is.
-          let known = subst IsSome (sym (get-from_entries nat_list_cmp_total (worded bills) (number ∷ []) ∙ is))
-          refl in
+          let known =
+              subst IsSome (sym (get-from_entries nat_list_cmp_total (worded bills) (number ∷ []) ∙ is))
+              refl in
           let below : number < number = higher number known in absurd (omega (arith, below))
     ] refl
 
@@ -164,7 +167,8 @@ there-among (bill ∷ later) (suc place) d inside =
 
 -- bills with another one, whose number is above all others, rise
 pub rising-with : (bills : List NumberedCell) (number : ℕ) (cell : Cell) → IsRising bills
-    → AreBelow (map_of.from_entries {R = by_words} (worded bills)) number → IsRising (bills ++ (number, cell) ∷ [])
+    → AreBelow (map_of.from_entries {R = by_words} (worded bills)) number
+    → IsRising (bills ++ (number, cell) ∷ [])
 unfolding cell_among
 rising-with bills number cell rising higher =
     all_pairs_push (λ (bill later : NumberedCell). bill.0 < later.0) bills (number, cell) rising
@@ -173,7 +177,8 @@ rising-with bills number cell rising higher =
     ((slice_index_or bills k d).0 ∷ []))) (there-among bills k d inside)))
 
 -- and their map has that number's cell
-pub more-with : (bills : List NumberedCell) (number : ℕ) (cell : Cell) → AreBelow (map_of.from_entries {R = by_words} (worded bills)) number
+pub more-with : (bills : List NumberedCell) (number : ℕ) (cell : Cell)
+    → AreBelow (map_of.from_entries {R = by_words} (worded bills)) number
     → map_of.from_entries {R = by_words} (worded (bills ++ (number, cell) ∷ []))
     ≡ map_of.insert (map_of.from_entries {R = by_words} (worded bills)) (number ∷ []) cell
 unfolding cell_among

@@ -10,7 +10,7 @@ use Rattle.kb_machine.specs.Machines.{MachineValue}
 use Rattle.kb_works.specs.declared.settlement.Settlement.{Settlement}
 use Rattle.kb_works.specs.declared.settlement.Settlements.{Settlements}
 use Rattle.kb_works.specs.Orders.{settled_by}
-use Rattle.kb_works.specs.Settlements.{IsReady, AreReady, IsWhole, IsChosen, told_place}
+use Rattle.kb_works.specs.Private.Settlements.{IsReady, AreReady, IsWhole, IsChosen, told_place}
 
 module _ (machine : MachineValue) (today : ℕ) (account key : List ℕ) (ready : Settlements)
     (are : AreReady machine today account key ready) (one : Settlement) where

@@ -17,7 +17,7 @@ use Rattle.kb_works.specs.declared.settlement.Settlement.{Settlement}
 use Rattle.kb_works.specs.declared.work.Work.TheVariants.{Check}
 use Rattle.kb_works.specs.Works.{work_of}
 use Rattle.kb_works.specs.Orders.{settled_by}
-use Rattle.kb_works.specs.Settlements.{IsChosen, IsReadyOf, fault_step}
+use Rattle.kb_works.specs.Private.Settlements.{IsChosen, IsReadyOf, fault_step}
 
 -- a settlement that was chosen is the one that there is
 pub chosen_command : (machine : MachineValue) (today : ℕ) (command : Option Command) (ready : Settlement)

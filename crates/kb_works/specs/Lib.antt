@@ -1,3 +1,3 @@
 pub mod Works
 pub mod Orders
-pub mod Settlements
+pub mod Private

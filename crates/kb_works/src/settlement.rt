@@ -3,7 +3,8 @@ ghost use Rattle.std.specs.Prelude.{◌≡◌, ◌<◌, ℕ, List, length, slice
 ghost use Rattle.kb_machine.specs.Machines.{MachineValue};
 ghost use Rattle.kb_machine.specs.Plans.{IsDueIn};
 ghost use Rattle.kb_works.specs.Orders.{settled_by};
-ghost use Rattle.kb_works.specs.Settlements.{IsReady, AreReady, AddsReady, IsWhole, IsChosen, told_place};
+ghost use Rattle.kb_works.specs.Private.Settlements.{IsReady, AreReady, AddsReady, IsWhole};
+ghost use Rattle.kb_works.specs.Private.Settlements.{IsChosen, told_place};
 
 use kb_base::{Failed, NoMemory};
 use kb_codec::{Command, Settle};

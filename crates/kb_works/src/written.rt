@@ -5,7 +5,7 @@ ghost use Rattle.kb_journal.specs.Format.{IsWithOrWithout};
 ghost use Rattle.kb_log.specs.Entries.{payload, payloads};
 ghost use Rattle.kb_log.specs.Logs.{Appends};
 ghost use Rattle.kb_machine.specs.Plans.{changed};
-ghost use Rattle.kb_works.specs.Settlements.{IsReadyOf, fault_step};
+ghost use Rattle.kb_works.specs.Private.Settlements.{IsReadyOf, fault_step};
 
 use crate::Settlement;
 use kb_days::Day;
@@ -15,8 +15,8 @@ use kb_log::Log;
 use kb_machine::{Change, Machine};
 use kb_reply::Step;
 
-/// Writes a settlement down, and takes it in. It takes no memory. If it can't be written down, the machine
-/// stays as it was, and the log says why.
+/// Writes a settlement down, and takes it in. It takes no memory. If it can't be written down, the fault
+/// tells why, as the log's `append` does, and the machine stays as it was.
 pub fn write<D: Disk>(
     machine: &mut Machine,
     log: &mut Log<D>,

@@ -3,8 +3,8 @@ use Rattle.std.specs.Prelude.{◌≡◌, Bool, true, false, None, codes, refl}
 use Rattle.kb_codec.specs.declared.command.Command.{Command}
 use Rattle.kb_codec.specs.declared.command.Command.TheVariants as kinds
 
--- A command leaves what is due, since its own edit is of no subscription, no blocking state and no billed date.
--- So do some other commands, but not for each book.
+-- A command leaves what is due, since its own edit is of no subscription, no blocking state and no billed
+-- date. So do some other commands, but not for each book.
 abbrev pub leaves_due : Command → Bool
 leaves_due (kinds.Charge c) = true
 leaves_due (kinds.Credit c) = true

@@ -7,7 +7,8 @@ use Rattle.kb_billd.proofs.top.apply_by.Goals as goal
 
 pub returns-in-Some-clause-applied : goal.returns-in-Some-clause-applied
 returns-in-Some-clause-applied g c =
-    by_market (words_of g.V.Disk.Disk.honest g.V.Disk.Disk.seen g.V.Disk.Disk.images g.V.Disk.Disk.fault_count)
+    by_market
+    (words_of g.V.Disk.Disk.honest g.V.Disk.Disk.seen g.V.Disk.Disk.images g.V.Disk.Disk.fault_count)
     (outside_of g.V.Disk.Disk.honest g.V.Disk.Disk.moment g.V.Disk.Disk.left_since
     g.V.Disk.Disk.fault_count g.M.Gateway.Gateway.asked g.M.Gateway.Gateway.said g.M.Gateway.Gateway.faults
     g.C.Clock.day)

@@ -34,7 +34,8 @@ returns c =
       fees_late = fee_on-late facts sub billed;
       pieces = pieces;
       longest = runs;
-      in_cells = AreRuns-in_cells facts sub billed first_day end_of_days found runs c.in_ok-pieces.ensures.short;
+      in_cells =
+          AreRuns-in_cells facts sub billed first_day end_of_days found runs c.in_ok-pieces.ensures.short;
       early = due_on-early facts sub billed own there named;
       late = due_on-late facts sub billed;
     }

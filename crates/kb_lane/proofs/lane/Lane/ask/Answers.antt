@@ -6,7 +6,7 @@ use Rattle.kb_machine.specs.Plans.{changed, change_reply}
 use Rattle.kb_lane.specs.Asking.{asked_for}
 use Rattle.kb_lane.specs.Lanes.{machine_of, IsLane}
 use Rattle.kb_works.specs.Orders.{settled_by}
-use Rattle.kb_works.specs.Settlements.{IsReadyOf}
+use Rattle.kb_works.specs.Private.Settlements.{IsReadyOf}
 use Rattle.kb_works.specs.declared.work.Work.TheVariants as works
 use Rattle.kb_lane.specs.Private.Runs.{SettlesNone}
 use Rattle.kb_lane.proofs.Kept.{lane_asked, lane_frees, lane_grows, lane_stays, own_noted}
