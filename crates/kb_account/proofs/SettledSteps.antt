@@ -12,7 +12,6 @@ use Rattle.kb_book.specs.Rows.{first_refusal, IsUnprepared}
 use Rattle.kb_book.specs.Steps.{Outcome, rows_of, step, accepted_over}
 use Rattle.kb_account.specs.Issues.{IsIssueOf, IsSettlement}
 use Rattle.kb_account.specs.Prepares.{refusal_by}
-use Rattle.kb_account.specs.Private.Begins.{own_refusal}
 use Rattle.kb_account.proofs.LeftDues.{issue-left}
 use Rattle.kb_account.proofs.PreparedSteps.{step-accepted, step-refused}
 
@@ -29,10 +28,6 @@ module _ (world : WorldValue) (book : BookValue) (today : ℕ) (command : Comman
         few = rw lines is.few;
         plain = rw lines is.plain;
       })
-
-  -- no limit of commands refuses it
-  pub rows-settled : first_refusal (rows_of world book today command) ≡ own_refusal world book today command
-  rows-settled = rw settles.1 refl
 
   -- a settlement that isn't refused is accepted
   pub step-settled : (outcome : Outcome) → first_refusal (rows_of world book today command) ≡ None

@@ -84,10 +84,6 @@ module _ {D G C : Type 0} (outside : Outside D G C) (today place last : ℕ) whe
         subst (λ more. DrainPart outside today place more now new) (sym (left-one place last inside))
         (inr (next, step, drains, later))
 
-    pub all_drained : last ≤ place → DrainFrom outside today place (last - place) now now
-    all_drained end = subst (λ more. DrainFrom outside today place more now now)
-        (sym (left-none place last end)) refl
-
 -- a part of a drain may end anywhere
 pub part_ends : {D G C : Type 0} (outside : Outside D G C) (today place more : ℕ) (now : LanesValue D G C)
     → DrainPart outside today place more now now

@@ -1,7 +1,7 @@
 -- What the runs of a key say of one day, and what each of them says.
 use Rattle.std.proofs.Common.{◌≡◌, ℕ, zero, suc, ◌+◌, ◌<◌, ◌≤◌, ◌⊎◌, inl, inr, Bool, true, false, ◌&&◌, ◌==◌}
 use Rattle.std.proofs.Common.{nat_eq, nat_le, List, [], ◌∷◌, map, Option, Some, None, All, option_to_list}
-use Rattle.std.proofs.Common.{refl, sym, ap, ◌∙◌, subst, arith}
+use Rattle.std.proofs.Common.{refl, ap, ◌∙◌, arith}
 use Rattle.std.proofs.lemmas.Bool.{cond_both, cond-true, cond-false, and_from, and_left, and_right, le-leb}
 use Rattle.std.proofs.lemmas.Bool.{lt-leb, lt-ltb, le-ltb, eqb-true, eq-eqb, cases_lt}
 use Rattle.std.proofs.lemmas.List.Elements.{All-nil, All-cons, All-head, All-tail}
@@ -162,21 +162,6 @@ each-run same is key day count =
 pub IsStretch-first : {V : Type 0} (key : ℕ → Option V) (day end : ℕ) (stretch : Stretch V)
     → IsStretch key day end stretch → key stretch.from ≡ Some stretch.value
 IsStretch-first key day end stretch is = is.valued stretch.from (omega arith) is.some_day
-
-module _ {V : Type 0} (same : V → V → Bool) (is : IsSame same) (key : ℕ → Option V) (day count d : ℕ)
-    (P : List V → Type 0) where
-  -- what holds of no value, and of the key's value on a day of the window, holds of what the runs have on any
-  -- day
-  pub runs-any_day : P [] → (day ≤ d → d < day + count → P (option_to_list (key d)))
-      → P (values_on d (runs same key day count))
-  runs-any_day none some = by_place (cases_lt d day) (cases_lt d (day + count))
-    where
-      by_place : (d < day) ⊎ (day ≤ d) → (d < day + count) ⊎ (day + count ≤ d)
-          → P (values_on d (runs same key day count))
-      by_place (inl before) at_end = subst P (sym (runs-before same key day count d before)) none
-      by_place (inr low) (inr after) = subst P (sym (runs-after same key day count d after)) none
-      by_place (inr low) (inl high) =
-          subst P (sym (runs-cover same is key day count d low high)) (some low high)
 
 -- the test of two numbers tells whether they are the same
 pub nat_eq-same : IsSame nat_eq

@@ -1,10 +1,10 @@
 -- A machine over a stream goes on byte by byte, and is ended by the end of the input, by a fault or by a
 -- bound.
 use Rattle.std.proofs.Common.{◌≡◌, ◌≢◌, ◌⊎◌, inl, inr, ℕ, ◌<◌, ◌≤◌, Bool, true, false, ◌&&◌, List, [], ◌∷◌}
-use Rattle.std.proofs.Common.{◌++◌, length, drop, take-append-drop, refl, sym, ap, ◌∙◌, subst, append_assoc}
+use Rattle.std.proofs.Common.{◌++◌, length, refl, sym, ap, ◌∙◌, subst, append_assoc}
 use Rattle.std.proofs.Common.{append-nil, arith, length-append}
 use Rattle.std.specs.Prelude.{◌==◌, take_while, MatchBool}
-use Rattle.std.specs.List.{list_all, prefix_len}
+use Rattle.std.specs.List.{list_all}
 use Rattle.std.proofs.lemmas.List.Folds.{list_all-append}
 use Rattle.std.proofs.lemmas.List.Elements.{filter-append}
 use Rattle.std.proofs.lemmas.Bool.Decides.{nat_tests}
@@ -76,13 +76,6 @@ short-join whole more h k = list_all-append is_short whole more ∙ both _ _ h k
 
 short-one : (piece : List ℕ) → length piece ≤ max_line → list_all is_short (piece ∷ []) ≡ true
 short-one piece h = grind (arith, nat_tests)
-
--- no byte moves nothing
-pub moves-none : {S : Type 0} (machine : Machine S (List ℕ)) (state : S) (pending : List ℕ)
-    → Moves machine state pending [] state pending []
-moves-none machine state pending first seen text at =
-    subst (λ t. IsAt machine first (seen ++ []) state pending t) (sym (append-nil text))
-    (subst (λ s. IsAt machine first s state pending text) (sym (append-nil seen)) at)
 
 -- one move after another is a move
 pub moves-then : {S : Type 0} (machine : Machine S (List ℕ)) (old mid new : S)
@@ -384,11 +377,6 @@ given_up-done machine first last bytes text done =
     given_up-whole machine first last bytes text (pieces line_feed bytes) []
     (sym (append-nil (pieces line_feed bytes))) done.ran
 
--- nothing was read
-pub given_up-none : {S : Type 0} (machine : Machine S (List ℕ)) (first : S)
-    → IsGivenUp machine first [] [] first
-given_up-none machine first = given_up-whole machine first first [] [] [] ([] ∷ []) refl (refl, refl)
-
 -- a whole move is a move up to the end
 pub cut-whole : {S : Type 0} (machine : Machine S (List ℕ)) (old new : S)
     (old_pending new_pending bytes added : List ℕ)
@@ -449,28 +437,3 @@ overlong-moved machine first state next seen pending text bytes next_pending add
     (append_assoc seen one.front (one.byte ∷ one.rest) ∙ ap (λ bs. seen ++ bs) (sym one.split))
     (overlong machine first next (seen ++ one.front) next_pending (text ++ added) one.byte one.rest
     (one.moved first seen text at) one.full one.other)
-
-ended-append : (first : List ℕ) (rest : List (List ℕ)) → (last : List ℕ)
-    × (first ∷ rest ≡ ended (first ∷ rest) ++ last ∷ [])
-ended-append first [] = (first, refl)
-ended-append first (next ∷ more) =
-    let later = ended-append next more in
-    (later.0, ap (λ ps. first ∷ ps) later.1)
-
--- where the reading broke off the machine has given up before the last piece
-pub given_up-broken : {S : Type 0} (machine : Machine S (List ℕ)) (first last : S) (bytes text : List ℕ)
-    → IsBroken machine first bytes text last → IsGivenUp machine first bytes text last
-given_up-broken machine first last bytes text broke =
-    let some = pieces-some line_feed bytes in
-    let split = ended-append some.0 some.1 in
-    given_up-whole machine first last bytes text (ended (pieces line_feed bytes)) (split.0 ∷ [])
-    (some.2 ∙ split.1 ∙ ap (λ ps. ended ps ++ split.0 ∷ []) (sym some.2)) broke.ran
-
--- where a line is too long the machine has given up before it
-pub given_up-overlong : {S : Type 0} (machine : Machine S (List ℕ)) (first last : S) (bytes text : List ℕ)
-    → IsOverlong machine first bytes text last → IsGivenUp machine first bytes text last
-given_up-overlong machine first last bytes text long =
-    let count = prefix_len is_short (pieces line_feed bytes) in
-    given_up-whole machine first last bytes text (take_while is_short (pieces line_feed bytes))
-    (drop count (pieces line_feed bytes))
-    (sym (take-append-drop count (pieces line_feed bytes))) long.ran

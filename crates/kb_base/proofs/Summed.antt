@@ -1,5 +1,5 @@
 -- Sums over days, and what runs weigh in all.
-use Rattle.std.proofs.Common.{◌⊎◌, inl, inr, ap, ◌∙◌, ◌≡◌, ℕ, zero, suc, ◌+◌, ◌-◌, ◌*◌, ◌/◌, ◌<◌, ◌≤◌, Bool}
+use Rattle.std.proofs.Common.{ap, ◌∙◌, ◌≡◌, ℕ, zero, suc, ◌+◌, ◌-◌, ◌*◌, ◌/◌, ◌<◌, ◌≤◌, Bool}
 use Rattle.std.proofs.Common.{List, [], ◌∷◌, Option, Some, None, ◌==◌, nat_eq, if◌then◌else◌, sum_by, refl}
 use Rattle.std.proofs.Common.{sym, arith}
 use Rattle.std.specs.List.{range_with_len}
@@ -138,19 +138,3 @@ pub sum_by-range-more : (f : ℕ → ℕ) (from count : ℕ)
 sum_by-range-more f from count =
     let last : sum_by f (range_with_len (from + count) 1) ≡ f (from + count) = omega arith in
     sum_by-range-append f from count 1 ∙ ap (λ n. sum_by f (range_with_len from count) + n) last
-
--- days that weigh nothing round some days add nothing to their sum
-pub sum_by-range-window : (f : ℕ → ℕ) (from total first count : ℕ) → from ≤ first
-    → first + count ≤ from + total
-    → ((d : ℕ) → from ≤ d → d < from + total → (d < first) ⊎ (first + count ≤ d) → f d ≡ 0)
-    → sum_by f (range_with_len from total) ≡ sum_by f (range_with_len first count)
-sum_by-range-window f from total first count begins ends none =
-    let before = sum_by-range-none f from (first - from)
-    (λ d low high. none d low (omega arith) (inl (omega arith))) in
-    let after = sum_by-range-none f (first + count) (from + total - (first + count))
-    (λ d low high. none d (omega arith) (omega arith) (inr low)) in
-    let front = sum_by-range-split f from first (first - from) (total - (first - from)) total (omega arith)
-    (omega arith) in
-    let back = sum_by-range-split f first (first + count) count (from + total - (first + count))
-    (total - (first - from)) refl (omega arith) in
-    omega (arith, before, after, front, back)

@@ -18,10 +18,6 @@ use Rattle.kb_credit.proofs.LevelledRows.{opened-levelled_rows}
 use Rattle.kb_credit.proofs.ClosedForm.{charged-levelled_rows, paid-levelled_rows, credit-levelled_rows}
 use Rattle.kb_credit.proofs.PaidRows.{sum_of-paid_at, paid-paid_at}
 
--- no invoices
-pub AreKept-none : AreKept [] [] (record { charged = pos 0; paid = pos 0; credit = pos 0 })
-AreKept-none = record { opens = refl; totals = refl; pays = refl; credits = refl }
-
 -- one more invoice
 module _ (rows : List Row) (invoices : List OpenInvoice) (sums : Sums)
     (kept : AreKept rows invoices sums) where

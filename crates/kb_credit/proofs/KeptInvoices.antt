@@ -11,7 +11,7 @@ use Rattle.kb_credit.specs.Sizes.{size_of}
 use Rattle.kb_credit.specs.Items.{amount_of}
 use Rattle.kb_credit.specs.InvoiceRows.{InvoicesValue, balance_of, charged, paid, credit, unpaid}
 use Rattle.kb_credit.specs.Levelling.{levelled_rows}
-use Rattle.kb_credit.specs.InvoiceEdits.{max_sum, AreInvoices, no_invoices, issued, paid_at, paid_on}
+use Rattle.kb_credit.specs.InvoiceEdits.{max_sum, AreInvoices, issued, paid_at, paid_on}
 use Rattle.kb_credit.specs.InvoiceEdits.{levelled}
 use Rattle.kb_credit.proofs.Integers.{nat_abs-between, nat_abs-most, nat_abs-least, nat_abs-pos}
 use Rattle.kb_sharing.proofs.MemberSums.{sum_of-push}
@@ -85,16 +85,6 @@ unpaid-most rows least =
     let t_most = nat_abs-most (charged rows) in
     let p_least = nat_abs-least (paid rows) in
     omega (arith, ints, clamps)
-
--- no invoices
-pub AreInvoices-none : AreInvoices no_invoices
-AreInvoices-none = record {
-  numbered = omega arith;
-  totals = omega arith;
-  payments = omega arith;
-  adjustments = omega arith;
-  credited = omega (arith, ints);
-}
 
 -- a levelling
 pub AreInvoices-levelled : (invoices : InvoicesValue) → AreInvoices invoices → AreInvoices (levelled invoices)

@@ -1,7 +1,7 @@
 -- What open invoices tell of the rows.
 use Rattle.std.proofs.Common.{◌≡◌, ℕ, zero, suc, ◌+◌, ◌≤◌, Bool, true, false, cond, nat_lt, List, [], ◌∷◌}
 use Rattle.std.proofs.Common.{ℤ, pos}
-use Rattle.std.proofs.Common.{negsuc, ◌+ℤ◌, int_lt, nat_abs, length, map, min, Option, Some, None, refl, ap}
+use Rattle.std.proofs.Common.{negsuc, ◌+ℤ◌, int_lt, nat_abs, length, map, refl, ap}
 use Rattle.std.proofs.Common.{◌∙◌, sym, arith}
 use Rattle.std.specs.List.{filter, find}
 use Rattle.std.specs.Int.{int_max}
@@ -12,7 +12,7 @@ use Rattle.kb_credit.specs.declared.row.Row.{Row}
 use Rattle.kb_credit.specs.declared.open_invoice.OpenInvoice.{OpenInvoice}
 use Rattle.kb_credit.specs.InvoiceRows.{balance_of, is_unpaid, unpaid_of, unpaid, unpaid_count}
 use Rattle.kb_credit.specs.InvoiceRows.{unpaid_numbers}
-use Rattle.kb_credit.specs.InvoiceRows.{at_most, least, earliest_unpaid, next_unpaid}
+use Rattle.kb_credit.specs.InvoiceRows.{least, earliest_unpaid, next_unpaid}
 use Rattle.kb_credit.specs.Private.OpenInvoices.{opening, opened, is_due, due_sum, due_count, due_days}
 use Rattle.kb_credit.specs.Private.OpenInvoices.{next_due}
 
@@ -124,14 +124,3 @@ next_due-opened after rows = ap (find (nat_lt after)) (due_numbers-opened 1 rows
 -- the least of the days
 pub earliest_due-opened : (rows : List Row) → least (due_days (opened 1 rows)) ≡ earliest_unpaid rows
 earliest_due-opened rows = ap least (due_days-opened 1 rows)
-
--- two days and others: the less of the two stands for both
-pub least-two : (day other : ℕ) (later : List ℕ)
-    → least (min day other ∷ later) ≡ least (day ∷ other ∷ later)
-least-two day other later = by (least later)
-  where
-    by : (found : Option ℕ)
-        → Some (at_most (min day other) found) ≡ Some (at_most day (Some (at_most other found)))
-    by None = refl
-    by (Some found) =
-        ap Some (let e : min (min day other) found ≡ min day (min other found) = omega arith in e)

@@ -29,25 +29,11 @@ made-lifts balance = by (int_lt balance (pos 0)) refl
 pub balance_of-with_made : (row : Row) → balance_of (with_made row) ≡ int_max (pos 0) (balance_of row)
 balance_of-with_made row = balance_of-adjust row (made_on row) ∙ made-lifts (balance_of row)
 
--- what is above 0 stays
-pub int_max_whole : (z : ℤ) → pos 0 ≤ℤ z → int_max (pos 0) z ≡ z
-int_max_whole z whole = omega (arith, ints, clamps)
-
 pub int_max_twice : (z : ℤ) → int_max (pos 0) (int_max (pos 0) z) ≡ int_max (pos 0) z
 int_max_twice z = omega (arith, ints, clamps)
 
 pub int_max-least : (z : ℤ) → pos 0 ≤ℤ int_max (pos 0) z
 int_max-least z = omega (arith, ints, clamps)
-
--- what is taken is at least 0, at most what is left, and at most what is unpaid
-pub taken-least : (left balance : ℤ) → pos 0 ≤ℤ left → pos 0 ≤ℤ taken left balance
-taken-least left balance whole = omega (arith, ints, clamps)
-
-pub taken-left : (left balance : ℤ) → taken left balance ≤ℤ left
-taken-left left balance = omega (arith, ints, clamps)
-
-pub taken-unpaid : (left balance : ℤ) → taken left balance ≤ℤ int_max (pos 0) balance
-taken-unpaid left balance = omega (arith, ints, clamps)
 
 -- what is left then
 pub left-least : (left balance : ℤ) → pos 0 ≤ℤ (left -ℤ taken left balance)

@@ -108,13 +108,6 @@ month_of-only d m began over =
     let high = month_start-order (month_of d) (m + 1) (omega (arith, month_of-began d)) in
     omega (arith, low, high)
 
--- a later day lies in no earlier month
-pub month_of-rises : (d e : ℕ) → d ≤ e → month_of d ≤ month_of e
-month_of-rises d e h =
-    let order = month_start-order (month_of d) (month_of e + 1)
-    (omega (arith, month_of-began d, month_of-not_over e)) in
-    omega (arith, order)
-
 -- the first of a month is its start
 pub mark-first : (m : ℕ) → mark m 1 ≡ month_start m
 mark-first m = omega (arith, month_length-low m)

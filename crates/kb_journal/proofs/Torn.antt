@@ -76,17 +76,6 @@ module _ (lanes lane : ℕ) (records : List (List ℕ)) (bytes : List ℕ) (plac
             (append_assoc (framed bytes) (0 ∷ []) rest);
       }
 
-  -- and the bytes stand for the same records
-  pub staged_stands : (seen : List ℕ) → IsStaged lanes lane records bytes seen
-      → StandsFor lanes lane records seen
-  staged_stands seen stage = record {
-    gate = stage.gate;
-    free = framed bytes ++ (0 ∷ stage.rest);
-    closed = stage.closed;
-    sized = stage.sized;
-    parts = stage.parts;
-  }
-
   -- an open gate in place of the closed one
   opened_parts : (rest : List ℕ) → body lanes lane records ++ (1 ∷ (framed bytes ++ (0 ∷ rest)))
       ≡ body lanes lane (records ++ bytes ∷ []) ++ (0 ∷ rest)

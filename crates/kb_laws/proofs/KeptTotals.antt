@@ -6,12 +6,12 @@ use Rattle.kb_credit.specs.declared.row.Row.{Row}
 use Rattle.kb_credit.specs.declared.line.Line.{Line}
 use Rattle.kb_credit.specs.Items.{amount_of}
 use Rattle.kb_credit.specs.Sizes.{size_of}
-use Rattle.kb_credit.specs.InvoiceRows.{InvoicesValue, charged}
+use Rattle.kb_credit.specs.InvoiceRows.{InvoicesValue}
 use Rattle.kb_credit.specs.InvoiceEdits.{levelled}
-use Rattle.kb_credit.proofs.ClosedForm.{length-levelled_rows, charged-levelled_rows, size_of-levelled_rows}
+use Rattle.kb_credit.proofs.ClosedForm.{length-levelled_rows, size_of-levelled_rows}
 use Rattle.kb_payment.specs.PaymentSums.{PaymentsValue}
 use Rattle.kb_book.specs.Steps.{with_invoice, with_paid}
-use Rattle.kb_laws.proofs.NotedRows.{length-paid_from, sum_of-paid_from, size_of-paid_from}
+use Rattle.kb_laws.proofs.NotedRows.{length-paid_from, size_of-paid_from}
 use Rattle.kb_laws.proofs.BilledRows.{billed_rows}
 
 -- what the totals of invoices weigh, each without its sign
@@ -23,11 +23,6 @@ pub length-with_paid : (payments : PaymentsValue) (invoices : InvoicesValue)
     → length (with_paid payments invoices).rows ≡ length invoices.rows
 length-with_paid payments invoices = length-paid_from payments 1 invoices.rows
 
-pub charged-with_paid : (payments : PaymentsValue) (invoices : InvoicesValue)
-    → charged (with_paid payments invoices).rows ≡ charged invoices.rows
-charged-with_paid payments invoices =
-    sum_of-paid_from payments (λ (row : Row). row.total) (λ row amount. refl) 1 invoices.rows
-
 pub totals_size-with_paid : (payments : PaymentsValue) (invoices : InvoicesValue)
     → totals_size (with_paid payments invoices) ≡ totals_size invoices
 totals_size-with_paid payments invoices =
@@ -36,9 +31,6 @@ totals_size-with_paid payments invoices =
 -- levelling
 pub length-levelled : (invoices : InvoicesValue) → length (levelled invoices).rows ≡ length invoices.rows
 length-levelled invoices = length-levelled_rows invoices.rows
-
-pub charged-levelled : (invoices : InvoicesValue) → charged (levelled invoices).rows ≡ charged invoices.rows
-charged-levelled invoices = charged-levelled_rows invoices.rows
 
 pub totals_size-levelled : (invoices : InvoicesValue) → totals_size (levelled invoices) ≡ totals_size invoices
 totals_size-levelled invoices =

@@ -13,7 +13,6 @@ use Rattle.kb_credit.specs.Sizes.{size_of}
 use Rattle.kb_credit.specs.InvoiceRows.{InvoicesValue, paid, credit}
 use Rattle.kb_credit.specs.InvoiceEdits.{issued, levelled}
 use Rattle.kb_credit.specs.Levelling.{adjust, made_on, with_made, used_on, with_used, levelled_rows}
-use Rattle.kb_credit.specs.Levelling.{level_items}
 use Rattle.kb_payment.specs.declared.attempt.Attempt.{Attempt}
 use Rattle.kb_payment.specs.Attempts.{paid_by}
 use Rattle.kb_payment.specs.PaymentSums.{PaymentsValue, paid_on}
@@ -125,19 +124,6 @@ module _ (payments : PaymentsValue) where
       → paid_from payments 1 (levelled_rows rows) ≡ levelled_rows rows
   noted-levelled_rows rows is =
       noted-with_used (credit (map with_made rows)) 1 (map with_made rows) (noted-with_made 1 rows is)
-
-  -- levelled invoices keep what is noted
-  pub with_paid-noted : (invoices : InvoicesValue) → with_paid payments invoices ≡ invoices
-      → with_paid payments (levelled invoices) ≡ levelled invoices
-  with_paid-noted invoices is =
-      ap (λ (rows : List Row). record { rows = rows; items = invoices.items ++ level_items invoices.rows })
-      (noted-levelled_rows invoices.rows (ap (λ (one : InvoicesValue). one.rows) is))
-
-  pub with_paid-levelled : (invoices : InvoicesValue)
-      → with_paid payments (levelled (with_paid payments invoices)) ≡ levelled (with_paid payments invoices)
-  with_paid-levelled invoices =
-      with_paid-noted (with_paid payments invoices)
-      (ap (λ (rows : List Row). record invoices { rows = rows }) (paid_from-twice 1 invoices.rows))
 
 -- nothing is paid on an invoice past all that have an attempt
 pub paid_on-past : (count asked : ℕ) (payments : PaymentsValue)

@@ -27,16 +27,6 @@ use Rattle.kb_laws.proofs.FoundEntries.{same_keys}
 abbrev pub MovesOnce : PaymentsValue → PaymentsValue → Type 0
 MovesOnce old new = (invoice : ℕ) × (amount : ℤ) × (nat_abs amount ≤ 2 ^ 64) × Moves old new invoice amount
 
--- it stays
-pub stays-once : (old new : PaymentsValue) → ((asked : ℕ) → paid_on new asked ≡ paid_on old asked)
-    → MovesOnce old new
-stays-once old new same = (0, pos 0, omega arith, λ asked. same asked ∙ none asked (0 == asked))
-  where
-    none : (asked : ℕ) (here : Bool)
-        → paid_on old asked ≡ paid_on old asked +ℤ (if here then pos 0 else pos 0)
-    none asked true = omega (arith, ints)
-    none asked false = omega (arith, ints)
-
 -- a new entry adds its weight
 sum-put_new : (weight : Attempt → ℤ) (key : List ℕ) (attempt : Attempt) (payments : PaymentsValue)
     → attempt_of payments key ≡ None

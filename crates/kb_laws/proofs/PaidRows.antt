@@ -1,7 +1,7 @@
 -- What is paid on rows is what payments say.
 use Rattle.std.proofs.Common.{◌≡◌, ℕ, zero, suc, ◌+◌, ◌-◌, ◌<◌, ◌≤◌, Bool, true, false, ◌==◌, List, []}
 use Rattle.std.proofs.Common.{◌∷◌}
-use Rattle.std.proofs.Common.{length, ℤ, ◌+ℤ◌, refl, ap}
+use Rattle.std.proofs.Common.{ℤ, ◌+ℤ◌, refl, ap}
 use Rattle.std.proofs.Common.{◌∙◌, arith}
 use Rattle.std.proofs.lemmas.Int.{ints}
 use Rattle.std.proofs.lemmas.Bool.{eq-eqb, eqb-true}
@@ -15,21 +15,6 @@ use Rattle.kb_book.specs.Steps.{paid_from, with_paid}
 -- a row with what is paid on it
 abbrev pub noted : ℤ → Row → Row
 noted amount row = record row { paid = amount }
-
--- payments that pay the same note the same
-pub paid_from-same : (old new : PaymentsValue) → ((asked : ℕ) → paid_on new asked ≡ paid_on old asked)
-    → (number : ℕ) (rows : List Row) → paid_from new number rows ≡ paid_from old number rows
-paid_from-same old new same number [] = refl
-paid_from-same old new same number (row ∷ rows) =
-    let here = ap (λ (amount : ℤ). noted amount row) (same number) in
-    let later = paid_from-same old new same (number + 1) rows in
-    cc
-
-pub with_paid-same : (old new : PaymentsValue) (invoices : InvoicesValue) → with_paid old invoices ≡ invoices
-    → ((asked : ℕ) → paid_on new asked ≡ paid_on old asked) → with_paid new invoices ≡ invoices
-with_paid-same old new invoices is same =
-    ap (λ (rows : List Row). record invoices { rows = rows }) (paid_from-same old new same 1 invoices.rows)
-    ∙ is
 
 -- where payments move on an invoice that isn't there, they note the same
 paid_from-apart : (old new : PaymentsValue) (invoice : ℕ) (amount : ℤ) → Moves old new invoice amount
@@ -74,22 +59,6 @@ with_paid-moved old new invoices invoice amount moves some is =
     ap (λ (rows : List Row). record invoices { rows = rows })
     (paid_from-moved old new invoice amount moves (invoice - 1) 1 invoices.rows (omega arith))
     ∙ ap (λ (before : InvoicesValue). edits.paid_on before invoice amount) is
-
--- a place that isn't there has nothing more paid on it
-paid_at-past : (place : ℕ) (amount : ℤ) (rows : List Row) → length rows ≤ place
-    → paid_at place amount rows ≡ rows
-paid_at-past place amount [] past = refl
-paid_at-past zero amount (row ∷ rows) past = absurd (omega arith)
-paid_at-past (suc place) amount (row ∷ rows) past =
-    ap (λ (later : List Row). row ∷ later) (paid_at-past place amount rows (omega arith))
-
-pub with_paid-past : (old new : PaymentsValue) (invoices : InvoicesValue) (invoice : ℕ) (amount : ℤ)
-    → Moves old new invoice amount → length invoices.rows < invoice → with_paid old invoices ≡ invoices
-    → with_paid new invoices ≡ invoices
-with_paid-past old new invoices invoice amount moves past is =
-    with_paid-moved old new invoices invoice amount moves (omega arith) is
-    ∙ ap (λ (rows : List Row). record invoices { rows = rows })
-    (paid_at-past (invoice - 1) amount invoices.rows (omega arith))
 
 pub with_paid-none : (old new : PaymentsValue) (invoices : InvoicesValue) (amount : ℤ)
     → Moves old new 0 amount

@@ -29,7 +29,3 @@ pub fault_isnt_full : {A : Type 0} (result : Result A AppendFault) (commands byt
     → result ≡ Err DiskFault
     → IsErrOf result (Full commands bytes) → ⊥
 fault_isnt_full result commands bytes is told = cc
-
-pub full_isnt_stopped : {A : Type 0} (result : Result A AppendFault) (commands bytes count : ℕ)
-    → result ≡ Err (Full commands bytes) → IsErrOf result (Stopped count) → ⊥
-full_isnt_stopped result commands bytes count is told = cc

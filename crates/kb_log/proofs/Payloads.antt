@@ -1,15 +1,13 @@
 -- A payload: its first four bytes tell the day, and the others the command.
 use Rattle.std.proofs.Common.{◌≡◌, ℕ, ◌<◌, ◌≤◌, ◌^◌, List, length, take, drop, Option, Some}
-use Rattle.std.proofs.Common.{None, IfSome}
 use Rattle.std.proofs.Common.{refl, sym, ap, ◌∙◌, arith, length-append}
-use Rattle.std.proofs.lemmas.List.{take-append-drop}
 use Rattle.std.specs.Int.{w32, to_be_bytes, from_be_bytes}
 use Rattle.std.proofs.lemmas.Nat.{from_be_bytes-to_be_bytes_4}
 use Rattle.std.proofs.Math.Seq.{take-append_seam, drop-append_seam}
 use Rattle.kb_codec.specs.declared.command.Command.{Command}
-use Rattle.kb_codec.specs.Commands.{spelling, IsDay, IsCommand}
+use Rattle.kb_codec.specs.Commands.{spelling, IsDay}
 use Rattle.kb_codec.specs.Members.{day_bytes, four_bytes}
-use Rattle.kb_log.specs.Entries.{payload, IsEntry}
+use Rattle.kb_log.specs.Entries.{payload}
 use Rattle.kb_log.specs.Private.Parts.{both_of}
 
 pub day_written : (number : ℕ) (bytes : List ℕ) → to_be_bytes w32 number ≡ bytes → day_bytes number ≡ bytes
@@ -51,21 +49,6 @@ rest_payload today command bytes is =
     sym (drop-append_seam (day_bytes today) (spelling command))
     ∙ ap (λ count. drop count (payload (today, command))) (length-day_bytes today)
     ∙ ap (drop 4) is
-
--- both make the payload
-pub both_written : (bytes : List ℕ) (day : Option ℕ) (command : Option Command)
-    → IfSome day (λ day. day_bytes day ≡ take 4 bytes)
-    → IfSome command (λ command. spelling command ≡ drop 4 bytes)
-    → IfSome (both_of day command) (λ entry. payload entry ≡ bytes)
-both_written bytes None command first second = tt
-both_written bytes (Some day) None first second = tt
-both_written bytes (Some day) (Some command) first second = rw (first, second) (take-append-drop 4 bytes)
-
-pub both_sound : (day : Option ℕ) (command : Option Command) → IfSome day IsDay → IfSome command IsCommand
-    → IfSome (both_of day command) IsEntry
-both_sound None command first second = tt
-both_sound (Some day) None first second = tt
-both_sound (Some day) (Some command) first second = (first, second)
 
 pub both_there : (today : ℕ) (given : Command) (day : Option ℕ) (command : Option Command) → day ≡ Some today
     → command ≡ Some given → both_of day command ≡ Some (today, given)

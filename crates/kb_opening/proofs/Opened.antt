@@ -46,11 +46,6 @@ module _ {D G : Type 0} (words : DiskWords D) (folder : List ℕ) (count : ℕ) 
       ∙ told_before old.lane_bytes folder (length lanes) None folder (length lanes)
       (not_among folder (length lanes) folder (length lanes) (omega arith))
 
-  pub next_inside : old.is_out folder (length lanes) ≡ false → mid.is_out folder (length lanes) ≡ false
-  next_inside inside = so_far.out folder (length lanes)
-      ∙ told_before old.is_out folder (length lanes) true folder (length lanes)
-      (not_among folder (length lanes) folder (length lanes) (omega arith)) ∙ inside
-
   snoc : (lane : LaneValue D G) → TakesOut words folder count (length lanes) mid new lane
       → AreOpened words folder count old new (lanes ++ lane ∷ [])
   snoc lane takes = record {

@@ -76,10 +76,6 @@ open_by-here : (invoice amount day : ℕ) (auto : Bool)
 open_by-here invoice amount day auto =
     ap (λ b. if b && true then pos 1 else pos 0) (eq-eqb invoice invoice refl)
 
-open_by-elsewhere : (invoice amount day : ℕ) (auto : Bool) (other : ℕ) → (invoice == other) ≡ false
-    → open_by other (purchase_of invoice amount day auto) ≡ pos 0
-open_by-elsewhere invoice amount day auto other is = ap (λ b. if b && true then pos 1 else pos 0) is
-
 -- so there is at most one
 open_by-most : (payments : PaymentsValue) (invoice amount day : ℕ) (auto : Bool) (other : ℕ)
     → open_purchases payments other ≤ℤ pos 1 → open_purchases payments invoice ≡ pos 0

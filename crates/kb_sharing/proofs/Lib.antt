@@ -3,7 +3,6 @@ pub mod ChunkPlaces
 pub mod ChunkedLists
 pub mod EntrySums
 pub mod MemberSums
-pub mod NextEntries
 pub mod Places
 pub mod SplitEntries
 pub mod TreeMaps

@@ -1,19 +1,14 @@
--- New items, and the charges that they leave, depend on the charges of the window's days alone; and a day
--- whose due cell stays keeps its charge.
+-- New items, and the charges that they leave, depend on the charges of the window's days alone.
 use Rattle.std.proofs.Common.{◌≡◌, ℕ, ◌+◌, ◌<◌, ◌≤◌, nat_eq, List, ◌++◌, length, map, Option}
-use Rattle.std.proofs.Common.{option_to_list, ap, ap₂, ◌∙◌, append-nil}
+use Rattle.std.proofs.Common.{ap, ap₂}
 use Rattle.kb_base.specs.Runs.{values_on}
 use Rattle.kb_base.proofs.Windows.{runs-same-key}
-use Rattle.kb_base.proofs.Covered.{runs-cover}
 use Rattle.kb_due.specs.declared.cell.Cell.{Cell}
 use Rattle.kb_due.specs.CellStretches.{same_cell}
-use Rattle.kb_due.proofs.SameCells.{same_cell-same}
 use Rattle.kb_tree.specs.Items.{Charge}
 use Rattle.kb_tree.specs.Repairs.{wrong_among, missing_among, repair_of, bill_of, new_repairs, new_bills}
-use Rattle.kb_tree.specs.Repairs.{new_items, IsSettled}
+use Rattle.kb_tree.specs.Repairs.{new_items}
 use Rattle.kb_tree.specs.Private.LeftCharges.{charges_but, billed_from, missing_runs, charges_after}
-use Rattle.kb_tree.proofs.OneCharge.{wrong-same, missing-same}
-use Rattle.kb_tree.proofs.AddedCharges.{charges_but-none, values_on-billed_from}
 
 module _ (charges other : ℕ → List Charge) (due : ℕ → Option Cell) (day count : ℕ)
     (agree : (d : ℕ) → day ≤ d → d < day + count → charges d ≡ other d) where
@@ -45,18 +40,3 @@ module _ (charges other : ℕ → List Charge) (due : ℕ → Option Cell) (day 
       ap₂ (λ a b. a ++ b) (ap (λ all. charges_but (wrong_among all (due d)) all) (agree d low high))
       (ap₂ (λ repairs bills. values_on d (billed_from (first + length repairs) bills)) repairs-agree
       missing-agree)
-
--- a day of the window whose due cell stays keeps its charge
-pub after-untouched : (charges : ℕ → List Charge) (old due : ℕ → Option Cell) (day count first d : ℕ)
-    → IsSettled charges old day count → day ≤ d → d < day + count → old d ≡ due d
-    → charges_after charges due day count first d ≡ charges d
-after-untouched charges old due day count first d is low high same =
-    let charged = is d low high ∙ ap option_to_list same in
-    let bills = missing_runs charges due day count in
-    ap₂ (λ a b. a ++ b)
-    (ap (λ wrong. charges_but wrong (charges d)) (wrong-same (charges d) (due d) charged)
-    ∙ charges_but-none (charges d))
-    (values_on-billed_from d (first + length (new_repairs charges due day count)) bills
-    (runs-cover same_cell same_cell-same (λ on. missing_among (charges on) (due on)) day count d low high
-    ∙ ap option_to_list (missing-same (charges d) (due d) charged)))
-    ∙ append-nil (charges d)

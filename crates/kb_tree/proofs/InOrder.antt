@@ -7,7 +7,7 @@ use Rattle.std.proofs.lemmas.Bool.{cond-false}
 use Rattle.kb_base.specs.Runs.{Stretch, has_day, values_on}
 use Rattle.kb_days.specs.Calendar.{end_of_days}
 use Rattle.kb_tree.specs.Covers.{AreInOrder}
-use Rattle.kb_tree.specs.Private.Rests.{AreAhead, AreNear, IsRest}
+use Rattle.kb_tree.specs.Private.Rests.{AreAhead, IsRest}
 
 module _ {V : Type 0} where
   -- a stretch that has the day gives its value
@@ -91,12 +91,6 @@ module _ {V : Type 0} where
   IsRest-all from [] order = record { ahead = tt; same = λ d low. refl }
   IsRest-all from (first ∷ later) order =
       record { ahead = (omega (arith, order.0, order.1), order.1, order.2); same = λ d low. refl }
-
-  -- what ends at or behind a day does so for an earlier one
-  pub AreNear-earlier : (day before end : ℕ) (stretches : List (Stretch V)) → before ≤ day
-      → AreNear day end stretches → AreNear before end stretches
-  AreNear-earlier day before end [] order near = tt
-  AreNear-earlier day before end (first ∷ later) order near = (omega (arith, near.0), near.1, near.2)
 
 module _ {T V : Type 0} (stretch : T → Stretch V) (items : List T) (first : T) (later : List T) (day : ℕ)
     (split : items ≡ first ∷ later) (ahead : AreAhead day end_of_days (map stretch items)) where
