@@ -144,8 +144,8 @@ higher-none bills number higher =
       | None ↦ λ is. refl
       | Some cell ↦ λ is.
           let known =
-              subst IsSome (sym (get-from_entries nat_list_cmp_total (worded bills) (number ∷ []) ∙ is))
-              refl in
+          subst IsSome (sym (get-from_entries nat_list_cmp_total (worded bills) (number ∷ []) ∙ is))
+          refl in
           let below : number < number = higher number known in absurd (omega (arith, below))
     ] refl
 
