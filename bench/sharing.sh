@@ -1,8 +1,8 @@
 #!/bin/sh
 # Prints how long shared lists and maps take, at three sizes: a push and its drop, a `get` and a `replace`
 # of a list; a `with` of a new key and its drop, and a `get` of a map by numbers and of one by names. Then it
-# prints how much memory the process holds of each member of a list of 100,000 pairs of numbers, 16 bytes each,
-# and of each entry of maps of 100,000. It tests nothing. The aims stand beside the figures.
+# prints how much memory the process holds of each member of a list of 100,000 pairs of numbers, 16 bytes
+# each, and of each entry of maps of 100,000. It tests nothing. The aims stand beside the figures.
 #
 # Members and keys are asked for and changed all over the list or the map, in an order that jumps. The time
 # is taken inside the program, as LLVM builds it, and is the best of five runs of many calls. Pushes begin
@@ -14,7 +14,7 @@ cd "$(dirname "$0")/.."
 . bench/repository.sh
 
 program=sharing_times
-libraries='kb_base jiff_core kb_days kb_sharing'
+libraries='kb_base jiff_core kb_days kb_lists kb_sharing'
 
 write_program() {
     cat <<'END'
@@ -24,7 +24,8 @@ write_program() {
 
 use kb_base::NoMemory;
 use kb_days::Name;
-use kb_sharing::{Key, SharedList, SharedMap};
+use kb_lists::SharedList;
+use kb_sharing::{Key, SharedMap};
 use std::alloc::{AllocGlobal, Global};
 use std::fs;
 use std::io;

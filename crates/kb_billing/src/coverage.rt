@@ -9,7 +9,7 @@ ghost use Rattle.kb_tree.specs.Amounts.{IsPriced};
 
 use kb_base::NoMemory;
 use kb_due::{Cell, Piece};
-use kb_sharing::SharedList;
+use kb_lists::SharedList;
 use kb_tree::{Cover, ItemNo, NewItem, Steps};
 use std::alloc::Global;
 use std::marker::Model;
@@ -17,7 +17,6 @@ use std::sync::ledger::Ledger;
 
 /// The items of one kind of charge of a subscription, with their numbers, and the cover that they make.
 /// Contracts see it as the list of the items.
-#[derive(Drop)]
 pub struct Coverage {
     items: SharedList<(ItemNo, NewItem)>,
     cover: Cover,
@@ -33,6 +32,16 @@ impl Model for Coverage {
     ghost view = { λ coverage. coverage.items };
 
     ghost invariant = { λ coverage. IsCoverOf coverage.cover coverage.items };
+}
+
+impl Drop for Coverage {
+    /// Drops what no other one shares. No crate above has to show again how that is dropped.
+    fn drop(self) {
+        let Coverage {
+            items: _items,
+            cover: _cover,
+        } = self;
+    }
 }
 
 impl Coverage {

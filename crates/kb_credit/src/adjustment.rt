@@ -7,7 +7,7 @@ ghost use Rattle.kb_credit.specs.Private.AdjustedRows.{adjust_at, adjusted};
 
 use crate::{Line, Row};
 use kb_base::NoMemory;
-use kb_sharing::SharedList;
+use kb_lists::SharedList;
 use std::alloc::Global;
 
 /// What is added to an invoice, by its number.

@@ -23,7 +23,7 @@ use crate::sums::{Sums, levelled, no_sums, with_issued, with_paid};
 use crate::{Invoice, Line, Row};
 use kb_base::{NoMemory, Seq};
 use kb_days::Day;
-use kb_sharing::SharedList;
+use kb_lists::SharedList;
 use std::alloc::Global;
 use std::marker::Model;
 

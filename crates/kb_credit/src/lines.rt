@@ -8,7 +8,7 @@ use crate::adjustment::with_item;
 use crate::{Line, Row};
 use kb_base::NoMemory;
 use kb_days::Day;
-use kb_sharing::SharedList;
+use kb_lists::SharedList;
 use std::alloc::Global;
 
 /// The row of an invoice of a day and some lines.

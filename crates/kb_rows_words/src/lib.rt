@@ -1,5 +1,4 @@
-//! Worked rows of the lowest crates: faults and lists, shared lists and maps, days and names, money, and
-//! bytes in memory.
+//! Worked rows of the lowest crates: faults and lists, days and names, money, and bytes in memory.
 //!
 //! Tests of public calls stand here and not beside the code, so that no crate is proved again with them.
 #![tactic(auto)]
@@ -18,9 +17,5 @@ mod lists;
 mod money;
 #[cfg(test)]
 mod names;
-#[cfg(test)]
-mod shared_lists;
-#[cfg(test)]
-mod shared_maps;
 #[cfg(test)]
 mod spans;

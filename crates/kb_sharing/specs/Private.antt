@@ -1,4 +1,2 @@
 -- What only private contracts and proofs cite.
-pub mod Chunks
 pub mod Nodes
-pub mod Trees

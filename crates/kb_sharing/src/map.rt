@@ -19,7 +19,6 @@ use tree::Tree;
 ///
 /// A look-up and a change take a time that grows with the logarithm of the size. Contracts see a map from the
 /// words of its keys.
-#[derive(Drop)]
 pub struct SharedMap<K: Key, V> {
     root: Tree<K, V>,
     len: u64,
@@ -41,6 +40,16 @@ impl<K: Key, V> Model for SharedMap<K, V> {
 
     ghost invariant = { λ kept. IsSorted (tree_entries K.word kept.root)
         × (kept.len ≡ length (tree_entries K.word kept.root)) };
+}
+
+impl<K: Key + Drop, V: Drop> Drop for SharedMap<K, V> {
+    /// Drops what no other map shares. No crate above has to show again how that is dropped.
+    fn drop(self) {
+        let SharedMap {
+            root: _root,
+            len: _len,
+        } = self;
+    }
 }
 
 impl<K: Key, V> SharedMap<K, V> {

@@ -1,12 +1,7 @@
-//! Lists and maps among threads: the check proves here that threads may hand them on, and lend them to each
-//! other, where they may do so with what stands in them.
+//! Maps among threads: the check proves here that threads may hand them on, and lend them to each other, if
+//! they may do so with what stands in them.
 
-use crate::{Key, SharedList, SharedMap};
-
-/// A list of such members is one of the values that threads may share.
-fn lists_are_shared<T: Send + Sync>(list: &SharedList<T>) {
-    is_shared(list)
-}
+use crate::{Key, SharedMap};
 
 /// A map of such keys and values is one of the values that threads may share.
 fn maps_are_shared<K: Key + Send + Sync, V: Send + Sync>(map: &SharedMap<K, V>) {

@@ -8,7 +8,7 @@ ghost use Rattle.kb_tree.specs.Private.RisingBills.{NumberedCell, IsRising, AreB
 use crate::ItemNo;
 use kb_base::NoMemory;
 use kb_due::Cell;
-use kb_sharing::SharedList;
+use kb_lists::SharedList;
 use std::alloc::Global;
 use std::marker::Model;
 

@@ -1,0 +1,4 @@
+pub mod ChunkPlaces
+pub mod ChunkedLists
+pub mod Places
+pub mod TreeSizes

@@ -1,0 +1,9 @@
+//! Worked rows of shared lists and maps.
+#![tactic(auto)]
+
+#[cfg(test)]
+mod compare;
+#[cfg(test)]
+mod shared_lists;
+#[cfg(test)]
+mod shared_maps;
