@@ -1,5 +1,5 @@
 -- Runs over other days: one more day, fewer days, days without a value, and another key.
-use Rattle.std.proofs.Common.{◌≡◌, ℕ, zero, suc, ◌+◌, ◌-◌, ◌<◌, ◌≤◌, Bool, [], Option, None}
+use Rattle.std.proofs.Common.{◌≡◌, ℕ, zero, suc, ◌+◌, ◌<◌, ◌≤◌, Bool, [], Option, None}
 use Rattle.std.proofs.Common.{refl, sym, ap₂, ◌∙◌, arith}
 use Rattle.kb_base.specs.Runs.{with_day, runs}
 

@@ -6,7 +6,7 @@ use std::alloc::Global;
 use std::marker::Model;
 
 /// A list, seen as its members. It is made from a `Vec` and gives it back without taking memory.
-#[derive(Debug, Drop)]
+#[derive(Debug)]
 pub struct Seq<T> {
     items: Vec<T>,
 }
@@ -17,6 +17,13 @@ impl<T> Model for Seq<T> {
     ghost Value = { List T };
 
     ghost view = { λ seq. seq.items.items };
+}
+
+impl<T: Drop> Drop for Seq<T> {
+    /// Drops the members. No crate above has to show again how a list is dropped.
+    fn drop(self) {
+        let Seq { items: _items } = self;
+    }
 }
 
 impl<T> Seq<T> {
@@ -40,7 +47,8 @@ impl<T> Seq<T> {
     pub fn into_vec(self) -> Vec<T>
         ensures { result.items ≡ self }
     {
-        self.items
+        let Seq { items } = self;
+        items
     }
 
     /// The members.

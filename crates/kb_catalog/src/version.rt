@@ -6,7 +6,7 @@ use kb_days::{Day, Name, Period, Span};
 use kb_money::{Currency, Minor};
 
 /// A version of a catalog, with the day from which it is used.
-#[derive(Debug, Drop)]
+#[derive(Debug)]
 pub struct Version {
     pub effective: Day,
     pub currencies: Seq<Currency>,
@@ -14,6 +14,20 @@ pub struct Version {
     pub plans: Seq<Plan>,
     pub lists: Seq<PriceList>,
     pub rules: Rules,
+}
+
+impl Drop for Version {
+    /// Drops all that it names. No crate above has to show again how that is dropped.
+    fn drop(self) {
+        let Version {
+            effective: _effective,
+            currencies: _currencies,
+            products: _products,
+            plans: _plans,
+            lists: _lists,
+            rules: _rules,
+        } = self;
+    }
 }
 
 /// A product, with the add-ons that may be had with it and those that come with it.

@@ -18,7 +18,6 @@ use std::marker::Model;
 
 /// A disk in memory, which notes each call. The calls of some numbers fail, and once there is no room for a
 /// note or for bytes, all do. A call that fails changes no byte.
-#[derive(Drop)]
 pub struct MemoryDisk {
     alloc: Global,
     first: Vec<u8>,
@@ -35,6 +34,18 @@ impl Model for MemoryDisk {
     ghost view = { λ disk. record { first = disk.first.items; log = disk.log } };
 
     ghost invariant = { λ disk. disk.bytes.items ≡ bytes_after disk.first.items disk.log.notes };
+}
+
+impl Drop for MemoryDisk {
+    /// Drops its bytes and its notes. No crate above has to show again how that is dropped.
+    fn drop(self) {
+        let MemoryDisk {
+            alloc: _alloc,
+            first: _first,
+            bytes: _bytes,
+            log: _log,
+        } = self;
+    }
 }
 
 impl MemoryDisk {
@@ -61,7 +72,13 @@ impl MemoryDisk {
     pub fn into_bytes(self) -> Vec<u8>
         ensures { result.items ≡ memory.seen self }
     {
-        self.bytes
+        let MemoryDisk {
+            alloc: _alloc,
+            first: _first,
+            bytes,
+            log: _log,
+        } = self;
+        bytes
     }
 
     /// All calls so far, failed ones too; none once a note or bytes found no room.

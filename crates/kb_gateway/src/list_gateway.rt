@@ -15,7 +15,6 @@ use std::marker::Model;
 /// A gateway in memory: the answers that it gives, with the numbers of the calls that are to fail, and all
 /// that it was asked and said. Once memory runs out for a note, it fails from then on, and doesn't tell that
 /// list any more.
-#[derive(Drop)]
 pub struct ListGateway {
     told: Vec<Told>,
     /// How many of the answers to orders were given.
@@ -46,6 +45,21 @@ impl Model for ListGateway {
 
     ghost invariant = { λ gateway. (gateway.asks ≤ length gateway.told.items)
         × (gateway.looks ≤ length gateway.seen.items) };
+}
+
+impl Drop for ListGateway {
+    /// Drops its lists. No crate above has to show again how that is dropped.
+    fn drop(self) {
+        let ListGateway {
+            told: _told,
+            asks: _asks,
+            seen: _seen,
+            looks: _looks,
+            calls: _calls,
+            asked: _asked,
+            said: _said,
+        } = self;
+    }
 }
 
 impl ListGateway {

@@ -9,7 +9,7 @@ use kb_days::{Day, Name};
 use std::alloc::Global;
 
 /// A subscription of an account.
-#[derive(Debug, Drop)]
+#[derive(Debug)]
 pub struct Subscription {
     pub name: Name,
     /// The place of its bundle, from 0.
@@ -19,6 +19,19 @@ pub struct Subscription {
     pub entries: Entries,
     /// The first day on which it isn't live any more, where it is cancelled.
     pub cancel: Option<Day>,
+}
+
+impl Drop for Subscription {
+    /// Drops its entries. No crate above has to show again how that is dropped.
+    fn drop(self) {
+        let Subscription {
+            name: _name,
+            bundle: _bundle,
+            addon: _addon,
+            entries: _entries,
+            cancel: _cancel,
+        } = self;
+    }
 }
 
 impl Subscription {

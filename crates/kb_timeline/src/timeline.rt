@@ -26,7 +26,7 @@ pub const MAX_SUBSCRIPTIONS: u32 = 128;
 
 /// The bundles and subscriptions of an account, each in order of creation: at most `MAX_SUBSCRIPTIONS`
 /// subscriptions. An edited timeline shares the subscriptions that stay as they were.
-#[derive(Debug, Drop)]
+#[derive(Debug)]
 pub struct Timeline {
     bundles: Seq<Name>,
     subscriptions: Vec<Arc<Subscription>>,
@@ -48,6 +48,16 @@ impl Model for Timeline {
       bundles = timeline.bundles;
       subscriptions = map arc_value timeline.subscriptions.items;
     }) };
+}
+
+impl Drop for Timeline {
+    /// Drops what no other timeline shares. No crate above has to show again how that is dropped.
+    fn drop(self) {
+        let Timeline {
+            bundles: _bundles,
+            subscriptions: _subscriptions,
+        } = self;
+    }
 }
 
 impl Timeline {
