@@ -20,6 +20,3 @@ pub use counted::Counted;
 pub use held::Held;
 pub use pass::{Pass, Turn};
 pub use turns::first_come_first_served;
-
-#[cfg(test)]
-mod tests;

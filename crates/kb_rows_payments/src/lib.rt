@@ -1,11 +1,7 @@
-//! Worked rows of payments and of the gateway.
+//! Worked rows of payments.
 #![tactic(auto)]
 
 #[cfg(test)]
 mod attempts;
 #[cfg(test)]
 mod compare;
-#[cfg(test)]
-mod gateways;
-#[cfg(test)]
-mod ids;

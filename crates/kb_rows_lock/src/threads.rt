@@ -3,7 +3,7 @@ ghost use Rattle.std.specs.Prelude.{◌≡◌, ◌<◌};
 ghost use mathlib.Core.List.{IsPrefix};
 ghost use Rattle.kb_lock.specs.Passes.{idle};
 
-use crate::{Counted, Held, Pass};
+use kb_lock::{Counted, Held, Pass};
 use std::alloc::Global;
 use std::sync::Wait;
 use std::test::Fail;
@@ -43,7 +43,7 @@ impl Log {
     }
 
     /// Adds an entry, and says whether there was memory.
-    #[tactic(auto, using(crate::proofs::Prefixes::prefix_self, crate::proofs::Prefixes::prefix_more))]
+    #[tactic(auto, using(kb_lock::proofs::Prefixes::prefix_self, kb_lock::proofs::Prefixes::prefix_more))]
     fn add(&mut self, entry: Entry) -> bool
         ensures { IsPrefix self.old.entries.items self.new.entries.items }
     {
