@@ -1,8 +1,8 @@
 //! Catalogs of some versions: the version of a day, and which one may be added.
 
 use crate::compare::same;
-use crate::told::{changed, valid};
 use kb_catalog::{AddFault, Catalog, MAX_VERSIONS, Valid};
+use kb_catalog_text::read;
 use kb_days::{Day, text};
 use kb_samples::{DEARER_CLUB, SampleFault, day};
 use std::alloc::Global;
@@ -10,8 +10,24 @@ use std::process::Abort;
 
 /// A version from a date on.
 fn dated(alloc: Global, date: &str) -> Result<Valid, SampleFault> {
-    let text = changed(alloc, DEARER_CLUB, "2024-04-01", date)?;
-    valid(alloc, text.as_str())
+    let (before, after) = DEARER_CLUB
+        .split_once("2024-04-01")
+        .ok_or(SampleFault::Word)?;
+    valid(alloc, format!(in alloc; "{before}{date}{after}")?)
+}
+
+/// The version that a catalog text says.
+fn valid(alloc: Global, text: String) -> Result<Valid, SampleFault> {
+    let checked = read(alloc, text.as_bytes().to_vec(alloc)?).ok();
+    Ok(checked.ok_or(SampleFault::Catalog)?.into_parts().1)
+}
+
+/// The first version of a catalog.
+pub(crate) fn first(catalog: &Catalog) -> Result<&Valid, SampleFault> {
+    if catalog.len() == 0 {
+        return Err(SampleFault::Catalog);
+    }
+    Ok(catalog.version(0))
 }
 
 /// A catalog of versions from these dates on.

@@ -1,7 +1,7 @@
-//! The rows of catalogs: what versions, texts and overdue states answer, in tables that a person worked out.
+//! The rows of catalogs: what versions answer, in tables that a person worked out.
 //!
-//! The rule kept here: catalogs and states are read from texts, so that a row is a text and an answer. A
-//! crate below isn't proved again with its tests, which stand here.
+//! The rule kept here: catalogs are read from texts, so that a row is a text and an answer. A crate below
+//! isn't proved again with its tests, which stand here.
 #![tactic(auto)]
 
 #[cfg(test)]
@@ -13,18 +13,4 @@ mod compare;
 #[cfg(test)]
 mod lookups;
 #[cfg(test)]
-mod messages;
-#[cfg(test)]
-mod overdue_days;
-#[cfg(test)]
-mod overdue_states;
-#[cfg(test)]
-mod overdue_texts;
-#[cfg(test)]
 mod parts;
-#[cfg(test)]
-mod rules;
-#[cfg(test)]
-mod texts;
-#[cfg(test)]
-mod told;

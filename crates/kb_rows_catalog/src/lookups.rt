@@ -4,8 +4,8 @@ mod changes;
 mod one_plan;
 mod shop_rules;
 
+use crate::catalogs::first;
 use crate::compare::same;
-use crate::told::{first, split};
 use kb_catalog::{Align, Catalog, Category, CreateAlign, PhaseType, Plan, PlanAsk};
 use kb_days::Period;
 use kb_samples::{SHOP, SampleFault, catalog, name};
@@ -50,7 +50,7 @@ const SALE_PLAN: &str = r#"},
 
 /// The shop with a plan more and with two lists.
 fn two_lists(alloc: Global) -> Result<Catalog, SampleFault> {
-    let (shop, _) = split(SHOP, "}]\nlist = [")?;
+    let (shop, _) = SHOP.split_once("}]\nlist = [").ok_or(SampleFault::Word)?;
     let text = format!(in alloc; "{shop}{SALE_PLAN}{TWO_LISTS}")?;
     catalog(alloc, &[text.as_str()])
 }

@@ -1,7 +1,7 @@
 //! What a version, a product and a phase tell of their parts.
 
+use crate::catalogs::first;
 use crate::compare::same;
-use crate::told::first;
 use kb_catalog::{Catalog, Phase, Version};
 use kb_money::{Currency, Minor};
 use kb_samples::{SHOP, SampleFault, catalog, name};

@@ -1,8 +1,8 @@
 //! What the rules of a change give.
 
 use super::{ask, two_lists};
+use crate::catalogs::first;
 use crate::compare::same;
-use crate::told::first;
 use kb_catalog::{Align, Catalog, Category, ChangeAsk, PhaseType, Policy, Valid};
 use kb_days::Period;
 use kb_samples::SampleFault;

@@ -1,8 +1,8 @@
 //! What the shop's own rules give.
 
 use super::ask;
+use crate::catalogs::first;
 use crate::compare::same;
-use crate::told::first;
 use kb_catalog::{
     Align, BillingAlign, Catalog, Category, ChangeAsk, CreateAlign, PlanAsk, Policy, Valid,
 };

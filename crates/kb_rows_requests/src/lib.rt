@@ -1,8 +1,6 @@
-//! Worked rows of requests and answers in JSON.
+//! Worked rows of requests in JSON.
 #![tactic(auto)]
 
-#[cfg(test)]
-mod answers;
 #[cfg(test)]
 mod compare;
 #[cfg(test)]
@@ -11,7 +9,5 @@ mod faults;
 mod lines;
 #[cfg(test)]
 mod members;
-#[cfg(test)]
-mod shown;
 #[cfg(test)]
 mod spelled;

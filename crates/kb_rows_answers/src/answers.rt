@@ -1,7 +1,6 @@
-//! Answers to commands and to lines that are no request. In these rows ' stands for ".
+//! Answers to commands and to lines that are no request.
 
 use crate::compare::same;
-use crate::lines::line;
 use kb_book::{Answer, Refusal};
 use kb_catalog_text::TextFault;
 use kb_reply::{LaneReply, Step};
@@ -19,8 +18,8 @@ pub(crate) fn says(
     answer: &Said,
     text: &str,
 ) -> Result<(), SampleFault> {
-    let (found, wanted) = (answer_text(alloc, answer)?, line(alloc, text)?);
-    same(rt, &found.as_slice(), &wanted.as_slice(), &text);
+    let found = answer_text(alloc, answer)?;
+    same(rt, &found.as_slice(), &text.as_bytes(), &text);
     Ok(())
 }
 
@@ -32,25 +31,25 @@ static ACCEPTED: [Accepted; 4] = [
         1,
         None,
         0,
-        "{'status':'ok','command':1,'invoice':null,'total':0,'credit':0,'unpaid':0}",
+        r#"{"status":"ok","command":1,"invoice":null,"total":0,"credit":0,"unpaid":0}"#,
     ),
     (
         5,
         Some(2),
         -387,
-        "{'status':'ok','command':5,'invoice':2,'total':-387,'credit':-387,'unpaid':-387}",
+        r#"{"status":"ok","command":5,"invoice":2,"total":-387,"credit":-387,"unpaid":-387}"#,
     ),
     (
         18_446_744_073_709_551_615,
         Some(4_294_967_295),
         9_223_372_036_854_775_808,
-        "{'status':'ok','command':18446744073709551615,'invoice':4294967295,'total':9223372036854775808,'credit':9223372036854775808,'unpaid':9223372036854775808}",
+        r#"{"status":"ok","command":18446744073709551615,"invoice":4294967295,"total":9223372036854775808,"credit":9223372036854775808,"unpaid":9223372036854775808}"#,
     ),
     (
         0,
         None,
         i128::MIN,
-        "{'status':'ok','command':0,'invoice':null,'total':-170141183460469231731687303715884105728,'credit':-170141183460469231731687303715884105728,'unpaid':-170141183460469231731687303715884105728}",
+        r#"{"status":"ok","command":0,"invoice":null,"total":-170141183460469231731687303715884105728,"credit":-170141183460469231731687303715884105728,"unpaid":-170141183460469231731687303715884105728}"#,
     ),
 ];
 
@@ -81,29 +80,29 @@ fn reply_says(
 
 /// Replies, with their texts.
 static REPLIES: [(LaneReply, &str); 8] = [
-    (LaneReply::Version(2), "{'status':'ok','version':2}"),
-    (LaneReply::States(0), "{'status':'ok','states':0}"),
+    (LaneReply::Version(2), r#"{"status":"ok","version":2}"#),
+    (LaneReply::States(0), r#"{"status":"ok","states":0}"#),
     (
         LaneReply::Refused(Refusal::KeyReused),
-        "{'status':'refused','number':16,'name':'KeyReused'}",
+        r#"{"status":"refused","number":16,"name":"KeyReused"}"#,
     ),
     (
         LaneReply::Refused(Refusal::Limit {
             which: 6,
             limit: 47_481,
         }),
-        "{'status':'refused','number':23,'name':'Limit','which':6,'limit':47481}",
+        r#"{"status":"refused","number":23,"name":"Limit","which":6,"limit":47481}"#,
     ),
-    (LaneReply::DiskFault, "{'status':'disk'}"),
-    (LaneReply::Stopped(7), "{'status':'stopped','count':7}"),
+    (LaneReply::DiskFault, r#"{"status":"disk"}"#),
+    (LaneReply::Stopped(7), r#"{"status":"stopped","count":7}"#),
     (
         LaneReply::Full {
             commands: 3,
             size: 1_099_511_627_776,
         },
-        "{'status':'full','commands':3,'size':1099511627776}",
+        r#"{"status":"full","commands":3,"size":1099511627776}"#,
     ),
-    (LaneReply::NoMemory, "{'status':'memory'}"),
+    (LaneReply::NoMemory, r#"{"status":"memory"}"#),
 ];
 
 #[test]
@@ -116,17 +115,17 @@ fn other_replies(rt: HostRuntime) -> Result<(), Fail> {
 
 /// Steps, with their texts.
 static STEPS: [(Step, &str); 5] = [
-    (Step::Done, "{'status':'ok'}"),
-    (Step::DiskFault, "{'status':'disk'}"),
-    (Step::Stopped(0), "{'status':'stopped','count':0}"),
+    (Step::Done, r#"{"status":"ok"}"#),
+    (Step::DiskFault, r#"{"status":"disk"}"#),
+    (Step::Stopped(0), r#"{"status":"stopped","count":0}"#),
     (
         Step::Full {
             commands: 0,
             size: 17,
         },
-        "{'status':'full','commands':0,'size':17}",
+        r#"{"status":"full","commands":0,"size":17}"#,
     ),
-    (Step::NoMemory, "{'status':'memory'}"),
+    (Step::NoMemory, r#"{"status":"memory"}"#),
 ];
 
 #[test]
@@ -143,23 +142,23 @@ fn step_says(rt: &impl Abort, alloc: Global, step: Step, text: &str) -> Result<(
 
 /// What a line is that is no request, with the text of the answer.
 static FAULTS: [(&str, &str); 11] = [
-    ("no JSON", "{'status':'bad','fault':1}"),
-    ("no object", "{'status':'bad','fault':2}"),
-    ("no kind", "{'status':'bad','fault':3}"),
-    ("a member missing", "{'status':'bad','fault':4}"),
-    ("a member of another type", "{'status':'bad','fault':5}"),
-    ("a member not known", "{'status':'bad','fault':6}"),
+    ("no JSON", r#"{"status":"bad","fault":1}"#),
+    ("no object", r#"{"status":"bad","fault":2}"#),
+    ("no kind", r#"{"status":"bad","fault":3}"#),
+    ("a member missing", r#"{"status":"bad","fault":4}"#),
+    ("a member of another type", r#"{"status":"bad","fault":5}"#),
+    ("a member not known", r#"{"status":"bad","fault":6}"#),
     (
         "no name",
-        "{'status':'refused','number':1,'name':'BadName'}",
+        r#"{"status":"refused","number":1,"name":"BadName"}"#,
     ),
     (
         "no date",
-        "{'status':'refused','number':2,'name':'BadDate'}",
+        r#"{"status":"refused","number":2,"name":"BadDate"}"#,
     ),
-    ("a text not TOML", "{'status':'text','fault':1}"),
-    ("a text too long", "{'status':'text','fault':7}"),
-    ("no memory", "{'status':'memory'}"),
+    ("a text not TOML", r#"{"status":"text","fault":1}"#),
+    ("a text too long", r#"{"status":"text","fault":7}"#),
+    ("no memory", r#"{"status":"memory"}"#),
 ];
 
 #[test]
@@ -199,7 +198,7 @@ fn refusal_says(
     number: u32,
     name: &str,
 ) -> Result<(), SampleFault> {
-    let text = format!(in alloc; "{{'status':'refused','number':{number},'name':'{name}'}}")?;
+    let text = format!(in alloc; r#"{{"status":"refused","number":{number},"name":"{name}"}}"#)?;
     says(rt, alloc, &Said::Refused(refusal), text.as_str())
 }
 
@@ -246,7 +245,11 @@ fn the_refusal_of_a_version(rt: HostRuntime) -> Result<(), Fail> {
 
 #[test]
 fn the_text_of_no_memory(rt: HostRuntime) -> Result<(), Fail> {
-    let text = line(rt.alloc(), "{'status':'memory'}")?;
-    same(&rt, &MEMORY_TEXT, &text.as_slice(), &"memory");
+    same(
+        &rt,
+        &MEMORY_TEXT,
+        &br#"{"status":"memory"}"#.as_slice(),
+        &"memory",
+    );
     Ok(())
 }

@@ -1,26 +1,11 @@
 //! What is told of texts that are read, and of changed ones.
 
 use crate::compare::same;
-use kb_catalog::{Catalog, Valid};
 use kb_catalog_text::{CheckedOverdue, TextFault, read, read_overdue};
 use kb_samples::SampleFault;
 use std::alloc::Global;
 use std::fmt::Debug;
 use std::process::Abort;
-
-/// The version that a catalog text says.
-pub(crate) fn valid(alloc: Global, text: &str) -> Result<Valid, SampleFault> {
-    let checked = read(alloc, text.as_bytes().to_vec(alloc)?).ok();
-    Ok(checked.ok_or(SampleFault::Catalog)?.into_parts().1)
-}
-
-/// The first version of a catalog.
-pub(crate) fn first(catalog: &Catalog) -> Result<&Valid, SampleFault> {
-    if catalog.len() == 0 {
-        return Err(SampleFault::Catalog);
-    }
-    Ok(catalog.version(0))
-}
 
 /// The states that an overdue text says.
 pub(crate) fn overdue(alloc: Global, text: &str) -> Result<CheckedOverdue, SampleFault> {

@@ -21,12 +21,12 @@ static ACCOUNTS: [AccountRow; 2] = [
     (
         None,
         None,
-        "{'status':'ok','account':'a1','currency':'USD','billed':null,'charged':613,'paid':1000,'credit':387,'unpaid':-1,'overdue':'CLEAR'}",
+        r#"{"status":"ok","account":"a1","currency":"USD","billed":null,"charged":613,"paid":1000,"credit":387,"unpaid":-1,"overdue":"CLEAR"}"#,
     ),
     (
         Some("2024-03-10"),
         Some("WARNING"),
-        "{'status':'ok','account':'a1','currency':'USD','billed':'2024-03-10','charged':613,'paid':1000,'credit':387,'unpaid':-1,'overdue':'WARNING'}",
+        r#"{"status":"ok","account":"a1","currency":"USD","billed":"2024-03-10","charged":613,"paid":1000,"credit":387,"unpaid":-1,"overdue":"WARNING"}"#,
     ),
 ];
 
@@ -79,7 +79,7 @@ type ItemRow = (u64, &'static str, Option<&'static str>, i128);
 static INVOICES: [(&[ItemRow], &str); 3] = [
     (
         &[],
-        "{'status':'ok','invoice':2,'day':'2024-03-25','total':-387,'balance':0,'items':[]}",
+        r#"{"status":"ok","invoice":2,"day":"2024-03-25","total":-387,"balance":0,"items":[]}"#,
     ),
     (
         &[
@@ -87,7 +87,7 @@ static INVOICES: [(&[ItemRow], &str); 3] = [
             (3, "recurring", Some("s1"), 5),
             (4, "fixed", Some("s1"), 0),
         ],
-        "{'status':'ok','invoice':2,'day':'2024-03-25','total':-387,'balance':0,'items':[{'item':2,'kind':'REPAIR_ADJ','subscription':'s1','from':'2024-03-20','to':'2024-04-01','amount':-387,'repairs':1},{'item':3,'kind':'RECURRING','subscription':'s1','from':'2024-03-20','to':'2024-04-01','amount':5,'repairs':null},{'item':4,'kind':'FIXED','subscription':'s1','from':'2024-03-20','to':'2024-04-01','amount':0,'repairs':null}]}",
+        r#"{"status":"ok","invoice":2,"day":"2024-03-25","total":-387,"balance":0,"items":[{"item":2,"kind":"REPAIR_ADJ","subscription":"s1","from":"2024-03-20","to":"2024-04-01","amount":-387,"repairs":1},{"item":3,"kind":"RECURRING","subscription":"s1","from":"2024-03-20","to":"2024-04-01","amount":5,"repairs":null},{"item":4,"kind":"FIXED","subscription":"s1","from":"2024-03-20","to":"2024-04-01","amount":0,"repairs":null}]}"#,
     ),
     (
         &[
@@ -95,7 +95,7 @@ static INVOICES: [(&[ItemRow], &str); 3] = [
             (5, "credit", None, -40),
             (5, "balance", None, 387),
         ],
-        "{'status':'ok','invoice':2,'day':'2024-03-25','total':-387,'balance':0,'items':[{'item':5,'kind':'EXTERNAL_CHARGE','subscription':null,'from':null,'to':null,'amount':250,'repairs':null},{'item':5,'kind':'CREDIT_ADJ','subscription':null,'from':null,'to':null,'amount':-40,'repairs':null},{'item':5,'kind':'CBA_ADJ','subscription':null,'from':null,'to':null,'amount':387,'repairs':null}]}",
+        r#"{"status":"ok","invoice":2,"day":"2024-03-25","total":-387,"balance":0,"items":[{"item":5,"kind":"EXTERNAL_CHARGE","subscription":null,"from":null,"to":null,"amount":250,"repairs":null},{"item":5,"kind":"CREDIT_ADJ","subscription":null,"from":null,"to":null,"amount":-40,"repairs":null},{"item":5,"kind":"CBA_ADJ","subscription":null,"from":null,"to":null,"amount":387,"repairs":null}]}"#,
     ),
 ];
 
@@ -198,7 +198,7 @@ fn payments(rt: HostRuntime) -> Result<(), Fail> {
 fn payment_says(rt: &impl Abort, alloc: Global, row: &PaymentRow) -> Result<(), SampleFault> {
     let (kind, status, kind_word, status_word) = *row;
     let text = format!(in alloc;
-        "{{'status':'ok','payment':'p1','kind':'{kind_word}','invoice':1,'amount':1000,'state':'{status_word}'}}"
+        r#"{{"status":"ok","payment":"p1","kind":"{kind_word}","invoice":1,"amount":1000,"state":"{status_word}"}}"#
     )?;
     let view = payment(name("p1")?, kind, status);
     says(rt, alloc, &Said::View(View::Payment(view)), text.as_str())
@@ -229,31 +229,31 @@ static SUBSCRIPTIONS: [SubscriptionRow; 5] = [
         Entitlement::Active,
         PRO,
         Some(PhaseType::Evergreen),
-        "'ACTIVE','plan':'pro','phase':'EVERGREEN'",
+        r#""ACTIVE","plan":"pro","phase":"EVERGREEN""#,
     ),
     (
         Entitlement::Blocked,
         PRO,
         Some(PhaseType::Trial),
-        "'BLOCKED','plan':'pro','phase':'TRIAL'",
+        r#""BLOCKED","plan":"pro","phase":"TRIAL""#,
     ),
     (
         Entitlement::Pending,
         PRO,
         Some(PhaseType::Discount),
-        "'PENDING','plan':'pro','phase':'DISCOUNT'",
+        r#""PENDING","plan":"pro","phase":"DISCOUNT""#,
     ),
     (
         Entitlement::Active,
         PRO,
         Some(PhaseType::FixedTerm),
-        "'ACTIVE','plan':'pro','phase':'FIXEDTERM'",
+        r#""ACTIVE","plan":"pro","phase":"FIXEDTERM""#,
     ),
     (
         Entitlement::Cancelled,
         None,
         None,
-        "'CANCELLED','plan':null,'phase':null",
+        r#""CANCELLED","plan":null,"phase":null"#,
     ),
 ];
 
@@ -272,7 +272,7 @@ fn subscription_says(
 ) -> Result<(), SampleFault> {
     let words = row.3;
     let text = format!(in alloc;
-        "{{'status':'ok','subscription':'s1','bundle':'b1','day':'2024-03-31','state':{words},'charged_through':'2024-04-01'}}"
+        r#"{{"status":"ok","subscription":"s1","bundle":"b1","day":"2024-03-31","state":{words},"charged_through":"2024-04-01"}}"#
     )?;
     let view = subscription(row)?;
     says(
