@@ -12,7 +12,7 @@ cd "$(dirname "$0")/.."
 . bench/repository.sh
 
 program=http_times
-libraries='kb_base kb_days kb_ports kb_links kb_http'
+libraries='kb_base kb_days kb_ports kb_links kb_paths kb_http'
 
 write_program() {
     cat <<'END'

@@ -15,7 +15,7 @@ cd "$(dirname "$0")/.."
 . bench/repository.sh
 
 program=http_peers
-libraries='kb_base kb_days kb_ports kb_links kb_http kb_sockets'
+libraries='kb_base kb_days kb_ports kb_links kb_paths kb_http kb_sockets'
 
 write_program() {
     cat <<'END'
@@ -29,7 +29,8 @@ ghost use Rattle.std.specs.Prelude.{◌≡◌, ◌==◌, false};
 ghost use Rattle.kb_http.specs.Responses.{IsStatus};
 
 use kb_base::NoMemory;
-use kb_http::{Allow, Conn, HttpNext, HttpRequest, Route, response_bytes};
+use kb_http::{Conn, HttpNext, HttpRequest, response_bytes};
+use kb_paths::{Allow, Route};
 use kb_sockets::{Door, Link, TcpDoor, TcpLink};
 use std::alloc::Global;
 use std::{env, io};

@@ -1,10 +1,7 @@
 pub mod Ahead
 pub mod Appended
 pub mod Complete
-pub mod Digits
-pub mod Fronts
 pub mod Lengths
 pub mod Looks
-pub mod Paths
 pub mod Taken
 pub mod Unique

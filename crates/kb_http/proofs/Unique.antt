@@ -7,7 +7,7 @@ use Rattle.httparse.specs.Grammar.{ReadsRequest}
 use Rattle.httparse.proofs.GrammarLemmas.{ReadsRequest-append, request_unique}
 use Rattle.kb_http.specs.declared.request.HttpRequest.{HttpRequest}
 use Rattle.kb_http.specs.Heads.{framing, closes}
-use Rattle.kb_http.specs.Routes.{method_of, route_of}
+use Rattle.kb_paths.specs.Routes.{method_of, route_of}
 use Rattle.kb_http.specs.Requests.{IsRequest, AreRequests, given_after}
 use Rattle.kb_http.proofs.Complete.{head_some}
 

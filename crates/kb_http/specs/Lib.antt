@@ -3,5 +3,4 @@ pub mod Heads
 pub mod Private
 pub mod Requests
 pub mod Responses
-pub mod Routes
 pub mod Words

@@ -6,10 +6,10 @@ ghost use Rattle.kb_http.specs.Heads.{is_named, told_length, body_length, framin
 ghost use Rattle.kb_http.specs.Heads.{asks_to_close};
 ghost use Rattle.kb_http.specs.Private.Parts.{told_with, told_after, told_by, length_of, Asks, Sees};
 
-use crate::words::{is_word, lists_close, number};
-use crate::{Method, Route};
+use crate::words::{is_word, lists_close};
 use httparse::spans::{EMPTY_HEADER_SPAN, HeaderSpan, RequestSpans, parse_request};
 use httparse::{Error, Status};
+use kb_paths::{Method, Route, number};
 
 /// The most fields of a head.
 const MAX_FIELDS: usize = 64;

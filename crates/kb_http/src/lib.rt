@@ -1,4 +1,4 @@
-//! The service's profile of HTTP/1.1: the requests of a connection, where they go, and responses as bytes.
+//! The service's profile of HTTP/1.1: the requests of a connection, and responses as bytes.
 //!
 //! The rule kept here: however a stream of bytes is cut, its requests come one after another, each with just
 //! its own bytes, and a stream without a further one is refused or ends by one stated cause. A leaf: it knows
@@ -7,11 +7,9 @@
 
 mod conn;
 mod head;
-mod pieces;
 mod reading;
 mod request;
 mod response;
-mod route;
 mod stop;
 mod taking;
 mod words;
@@ -19,5 +17,4 @@ mod words;
 pub use conn::Conn;
 pub use request::HttpRequest;
 pub use response::response_bytes;
-pub use route::{Allow, Method, Route};
 pub use stop::{HttpNext, Stop};

@@ -6,9 +6,9 @@ ghost use Rattle.httparse.specs.Ascii.{crlf_bytes};
 ghost use Rattle.kb_http.specs.Responses.{IsStatus, phrase_of, status_line, type_line, length_line};
 ghost use Rattle.kb_http.specs.Responses.{allow_line, close_line, response};
 
-use crate::Allow;
 use http::StatusCode;
 use kb_base::NoMemory;
+use kb_paths::Allow;
 use std::alloc::Global;
 
 /// The most bytes that a response has before its body.

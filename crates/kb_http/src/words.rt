@@ -1,11 +1,10 @@
 //! Words in the fields of a head.
-ghost use Rattle.std.specs.Prelude.{◌≡◌, ◌≤◌, ◌^◌, codes, reverse};
+ghost use Rattle.std.specs.Prelude.{◌≡◌, codes, reverse};
 ghost use Rattle.std.specs.List.{list_any};
 ghost use Rattle.httparse.specs.Grammar.{skip_ows, trim_ows};
 ghost use Rattle.kb_http.specs.Words.{is_word, words_of};
-ghost use Rattle.kb_http.specs.Private.Parts.{number_up_to, number_from};
 
-use crate::pieces::first_piece;
+use kb_paths::first_piece;
 
 /// Whether two words are the same but for the case of ASCII letters.
 pub fn is_word(word: &[u8], other: &[u8]) -> bool
@@ -57,31 +56,4 @@ fn trim_end(text: &[u8]) -> &[u8]
         text = rest;
     }
     text
-}
-
-/// The number that decimal digits stand for, or the limit if it is greater; none if they are no number.
-#[tactic(auto, using(crate::proofs::Digits::number_from_some))]
-pub fn number(text: &[u8], limit: u64) -> Option<u64>
-    requires { limit ≤ 2 ^ 32 }
-    ensures { result ≡ number_up_to limit text.now }
-{
-    match text {
-        [] => None,
-        [_, ..] => digits_value(text, limit),
-    }
-}
-
-/// The number that decimal digits stand for, or the limit if it is greater; none if one is no digit.
-fn digits_value(digits: &[u8], limit: u64) -> Option<u64>
-    requires { limit ≤ 2 ^ 32 }
-    ensures { result ≡ number_from limit 0 digits.now }
-{
-    let mut value = 0;
-    for digit in digits {
-        if !digit.is_ascii_digit() {
-            return None;
-        }
-        value = (value * 10 + u64::from(*digit - b'0')).min(limit);
-    }
-    Some(value)
 }

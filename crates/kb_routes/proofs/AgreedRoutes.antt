@@ -8,7 +8,7 @@ use Rattle.matchit.specs.Router.{RouteOf}
 use Rattle.matchit.specs.Rows.{RowsOf}
 use Rattle.matchit.specs.Seek.{first}
 use Rattle.kb_base.specs.Lines.{pieces}
-use Rattle.kb_http.specs.Routes.{slash}
+use Rattle.kb_paths.specs.Routes.{slash}
 use Rattle.kb_routes.specs.declared.kind.Kind.{Kind}
 use Rattle.kb_routes.specs.declared.kind.Kind.TheVariants.{Commands, Janitor, Account}
 use Rattle.kb_routes.specs.declared.kind.Kind.TheVariants.{Invoice, Payment, Subscription}

@@ -6,7 +6,7 @@ use Rattle.std.proofs.lemmas.Bool.{eqb-true, eqb-false, ne_eqb, and_left, and_ri
 use Rattle.matchit.specs.Level.{IsText}
 use Rattle.matchit.specs.Seek.{has_slash, segment}
 use Rattle.kb_base.specs.Lines.{pieces}
-use Rattle.kb_http.specs.Routes.{slash}
+use Rattle.kb_paths.specs.Routes.{slash}
 
 -- of a text without a slash, the first byte is none, and the others have none
 pub has_slash-cons : (x : ℕ) (xs : List ℕ) → has_slash (x ∷ xs) ≡ false

@@ -11,7 +11,7 @@ use Rattle.matchit.specs.Rows.{RowsOf, param_token, catch_all_token}
 use Rattle.matchit.specs.Seek.{seek, first, own, param_step, longest_from, longest_suffix, with_suffix}
 use Rattle.matchit.specs.Seek.{cuts, segment, has_slash}
 use Rattle.matchit.proofs.ParamLemmas.{better-empty, drop-length, one_less}
-use Rattle.kb_http.specs.Routes.{slash}
+use Rattle.kb_paths.specs.Routes.{slash}
 use Rattle.kb_routes.proofs.Cuts.{has_slash-cons, has_slash-cut, segment-cut, segment-whole}
 use Rattle.kb_routes.proofs.Seeks.{behind, behind-nil, own-append, own-behind, step-hit, step-miss, seek-none}
 use Rattle.kb_routes.proofs.Seeks.{seek-drop, or_else-none}

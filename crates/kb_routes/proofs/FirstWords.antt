@@ -5,7 +5,7 @@ use Rattle.std.specs.Prelude.{bytes_eq}
 use Rattle.std.proofs.lemmas.Bool.{and_parts, not-true, ltb-true, eqb-true, eqb-false, eq-eqb, ne_eqb}
 use Rattle.matchit.specs.Rows.{RowsOf}
 use Rattle.matchit.specs.Seek.{seek, first, own, has_slash}
-use Rattle.kb_http.specs.Routes.{slash}
+use Rattle.kb_paths.specs.Routes.{slash}
 use Rattle.kb_routes.proofs.Cuts.{has_slash-cons}
 use Rattle.kb_routes.proofs.Seeks.{behind, behind-nil, seek-none, first-byte, first-behind, own-behind}
 

@@ -7,7 +7,7 @@ use Rattle.matchit.specs.Rows.{RowsOf, param_token}
 use Rattle.matchit.specs.Seek.{first, seek, or_else, has_slash}
 use Rattle.kb_base.specs.Lines.{pieces}
 use Rattle.kb_base.proofs.Pieces.{pieces-some}
-use Rattle.kb_http.specs.Routes.{slash}
+use Rattle.kb_paths.specs.Routes.{slash}
 use Rattle.kb_routes.specs.declared.kind.Kind.{Kind}
 use Rattle.kb_routes.specs.declared.kind.Kind.TheVariants.{Commands, Janitor, Account}
 use Rattle.kb_routes.specs.declared.kind.Kind.TheVariants.{Invoice, Payment, Subscription}

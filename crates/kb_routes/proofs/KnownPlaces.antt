@@ -2,10 +2,10 @@
 use Rattle.std.proofs.Common.{◌≡◌, ℕ, ◌&&◌, Bool, true, false, if◌then◌else◌, List, [], ◌∷◌, Some, None, refl}
 use Rattle.std.specs.Prelude.{bytes_eq, codes}
 use Rattle.kb_days.specs.Names.{is_name}
-use Rattle.kb_http.specs.declared.route.Route.{Route}
-use Rattle.kb_http.specs.declared.route.Route.TheVariants as place
-use Rattle.kb_http.specs.Routes.{of_pieces, of_accounts, is_invoice_number}
-use Rattle.kb_http.specs.Words.{number_of}
+use Rattle.kb_paths.specs.declared.route.Route.{Route}
+use Rattle.kb_paths.specs.declared.route.Route.TheVariants as place
+use Rattle.kb_paths.specs.Routes.{of_pieces, of_accounts, is_invoice_number}
+use Rattle.kb_paths.specs.Numbers.{number_of}
 use Rattle.kb_routes.specs.declared.kind.Kind.TheVariants as kind
 use Rattle.kb_routes.specs.Places.{place_by}
 use Rattle.kb_routes.proofs.FoundKinds.{kind_of, kind_of_accounts}

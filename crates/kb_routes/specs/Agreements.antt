@@ -4,7 +4,7 @@ use Rattle.matchit.specs.Level.{IsText}
 use Rattle.matchit.specs.Route.{Scan, parse_route}
 use Rattle.matchit.specs.Seek.{first}
 use Rattle.kb_base.specs.Lines.{pieces}
-use Rattle.kb_http.specs.Routes.{slash, place_of}
+use Rattle.kb_paths.specs.Routes.{slash, place_of}
 use Rattle.kb_routes.specs.declared.kind.Kind.{Kind}
 use Rattle.kb_routes.specs.Shapes.{shape_of, has_shape}
 use Rattle.kb_routes.specs.Rows.{text_of, pattern_of, routes}

@@ -2,10 +2,10 @@
 use Rattle.std.specs.Prelude.{ℕ, ◌≡◌, ◌&&◌, if◌then◌else◌, List, codes, get_or, [], Option, Some, None, refl}
 use Rattle.kb_base.specs.Lines.{pieces}
 use Rattle.kb_days.specs.Names.{is_name}
-use Rattle.kb_http.specs.declared.route.Route.{Route}
-use Rattle.kb_http.specs.declared.route.Route.TheVariants as place
-use Rattle.kb_http.specs.Routes.{slash, is_invoice_number}
-use Rattle.kb_http.specs.Words.{number_of}
+use Rattle.kb_paths.specs.declared.route.Route.{Route}
+use Rattle.kb_paths.specs.declared.route.Route.TheVariants as place
+use Rattle.kb_paths.specs.Routes.{slash, is_invoice_number}
+use Rattle.kb_paths.specs.Numbers.{number_of}
 use Rattle.kb_routes.specs.declared.kind.Kind.{Kind}
 use Rattle.kb_routes.specs.declared.kind.Kind.TheVariants as kind
 

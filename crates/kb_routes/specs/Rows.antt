@@ -3,7 +3,7 @@ use Rattle.std.specs.Prelude.{ℕ, ◌≡◌, List, [], ◌∷◌, ◌++◌, cod
 use Rattle.matchit.specs.Rows.{RowsOf, param_token}
 use Rattle.matchit.specs.Router.{RouteOf}
 use Rattle.matchit.specs.Seek.{first, seek, param_step}
-use Rattle.kb_http.specs.Routes.{slash}
+use Rattle.kb_paths.specs.Routes.{slash}
 use Rattle.kb_routes.specs.declared.kind.Kind.{Kind}
 use Rattle.kb_routes.specs.declared.kind.Kind.TheVariants.{Commands, Janitor, Account}
 use Rattle.kb_routes.specs.declared.kind.Kind.TheVariants.{Invoice, Payment, Subscription}

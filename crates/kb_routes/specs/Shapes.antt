@@ -1,7 +1,7 @@
 -- The shapes of the service's routes: which words stand between the slashes of their paths.
 use Rattle.std.specs.Prelude.{ℕ, Bool, ◌≡◌, ◌&&◌, true, false, List, [], ◌∷◌, codes, bytes_eq, refl}
 use Rattle.kb_base.specs.Lines.{pieces}
-use Rattle.kb_http.specs.Routes.{slash}
+use Rattle.kb_paths.specs.Routes.{slash}
 use Rattle.kb_routes.specs.declared.kind.Kind.{Kind}
 use Rattle.kb_routes.specs.declared.kind.Kind.TheVariants.{Commands, Janitor, Account}
 use Rattle.kb_routes.specs.declared.kind.Kind.TheVariants.{Invoice, Payment, Subscription}

@@ -3,7 +3,7 @@ ghost use Rattle.std.specs.Prelude.{◌≡◌, IfOk, IfErr};
 ghost use Rattle.matchit.specs.declared.error.InsertError.TheVariants.{OutOfMemory};
 ghost use Rattle.matchit.specs.Seek.{first};
 ghost use Rattle.kb_base.specs.Lines.{pieces};
-ghost use Rattle.kb_http.specs.Routes.{slash, place_of};
+ghost use Rattle.kb_paths.specs.Routes.{slash, place_of};
 ghost use Rattle.kb_routes.specs.Rows.{HasRoutes, routes};
 ghost use Rattle.kb_routes.specs.Places.{place_by};
 

@@ -1,7 +1,8 @@
 //! Changes, cancellations, pauses and blocks.
 
 use crate::hold::hold_rows;
-use crate::rows::{Row, Script};
+use crate::rows::Row;
+use kb_runs::Script;
 use std::test::Fail;
 
 static CHANGES: [Row; 6] = [

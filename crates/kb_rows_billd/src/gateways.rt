@@ -1,14 +1,13 @@
 //! Gateways that fail, one call after another, and payments that are looked up then.
-ghost use Rattle.kb_rows_billd.specs.Insides.{AllInside};
+ghost use Rattle.kb_runs.specs.Insides.{AllInside};
 
 use crate::compare::same;
-use crate::hold::{ACCOUNT, APPLY, found, hold_run};
+use crate::hold::{ACCOUNT, hold_run};
 use crate::months::MONTHS;
 use crate::payments::PAYMENTS;
-use crate::rows::{Row, Script};
-use crate::runs::run;
-use crate::shops::{empty_vault, market_behind};
+use crate::rows::Row;
 use kb_gateway::{Seen, Told};
+use kb_runs::{APPLY, Script, empty_vault, make_lanes, market_behind, run};
 use kb_vault::MemoryVault;
 use std::alloc::Global;
 use std::process::Abort;
@@ -145,7 +144,7 @@ fn hold_fault_on(
     ensures inside { AllInside vault.new }
 {
     let (calls, failed, settled) = *fault;
-    found(rt, alloc, vault, 1, row.overdue)?;
+    make_lanes(alloc, vault, 1, row.overdue)?;
     hold_failing(rt, alloc, vault, row, calls)?;
     let wanted = format!(in alloc; "{charged},{failed}\n")?;
     hold_run(rt, alloc, vault, 1, &PAID, ACCOUNT, &wanted, &(row.name, 1))?;

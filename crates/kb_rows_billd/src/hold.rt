@@ -1,17 +1,13 @@
 //! How a row is held: on a new shop, and then on the same one by another run.
-ghost use Rattle.kb_rows_billd.specs.Insides.{AllInside};
+ghost use Rattle.kb_runs.specs.Insides.{AllInside};
 
 use crate::compare::same;
-use crate::rows::{Row, SILENT, Script};
-use crate::runs::run;
-use crate::shops::{empty_vault, market_of};
+use crate::rows::Row;
+use kb_runs::{SILENT, Script, answered, empty_vault, make_lanes};
 use kb_vault::MemoryVault;
 use std::alloc::Global;
 use std::process::Abort;
 use std::test::Fail;
-
-/// The words of a run over lines.
-pub(crate) const APPLY: &str = "apply --dir shop --gateway g";
 
 /// Asks how the account `a1` stands.
 pub(crate) const ACCOUNT: &str = r#"{"do":"account","account":"a1"}"#;
@@ -43,7 +39,7 @@ fn hold_on(
     requires inside { AllInside vault.old }
     ensures inside { AllInside vault.new }
 {
-    found(rt, alloc, vault, lanes, row.overdue)?;
+    make_lanes(alloc, vault, lanes, row.overdue)?;
     let (lines, answers, account) = (row.lines, row.answers, row.account);
     let input = format!(in alloc; "{lines}\n{ACCOUNT}\n")?;
     let wanted = format!(in alloc; "{answers}\n{account}\n")?;
@@ -61,26 +57,6 @@ fn hold_on(
     hold_account(rt, alloc, vault, lanes, account, &shown)
 }
 
-/// Makes the lanes of the shop. Nothing is written.
-pub(crate) fn found(
-    rt: &impl Abort,
-    alloc: Global,
-    vault: &mut MemoryVault,
-    lanes: u32,
-    overdue: &str,
-) -> Result<(), Fail>
-    requires inside { AllInside vault.old }
-    ensures inside { AllInside vault.new }
-{
-    let words = format!(in alloc;
-        "init --dir shop --lanes {lanes} --catalog c --overdue {overdue}"
-    )?;
-    let mut market = market_of(alloc, 0, &SILENT)?;
-    let (status, text) = run(alloc, vault, &mut market, &words, "not read\n")?;
-    same(rt, &(status, text.as_str()), &(0, ""), &overdue);
-    Ok(())
-}
-
 /// Runs the shop's lanes over an input. All of it is answered, as is wanted.
 pub(crate) fn hold_run(
     rt: &impl Abort,
@@ -95,8 +71,7 @@ pub(crate) fn hold_run(
     requires inside { AllInside vault.old }
     ensures inside { AllInside vault.new }
 {
-    let mut market = market_of(alloc, lanes, script)?;
-    let (status, text) = run(alloc, vault, &mut market, APPLY, input)?;
+    let (status, text) = answered(alloc, vault, lanes, script, input)?;
     same(rt, &(status, text.as_str()), &(0, wanted), row);
     Ok(())
 }

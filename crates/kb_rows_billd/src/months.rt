@@ -1,8 +1,9 @@
 //! A shop's month with automatic payments and overdue states.
 
 use crate::hold::hold_rows;
-use crate::rows::{Row, Script};
+use crate::rows::Row;
 use kb_gateway::Told;
+use kb_runs::Script;
 use std::test::Fail;
 
 pub(crate) static MONTHS: [Row; 1] = [Row {

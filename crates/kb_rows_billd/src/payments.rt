@@ -1,8 +1,9 @@
 //! Payments: paid ones, failed ones, and ones that are asked for twice.
 
 use crate::hold::hold_rows;
-use crate::rows::{Row, Script};
+use crate::rows::Row;
 use kb_gateway::{Seen, Told};
+use kb_runs::Script;
 use std::test::Fail;
 
 pub(crate) static PAYMENTS: [Row; 4] = [

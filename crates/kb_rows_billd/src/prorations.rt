@@ -1,7 +1,8 @@
 //! What days cost, and what is repaired of them.
 
 use crate::hold::hold_rows;
-use crate::rows::{Row, Script};
+use crate::rows::Row;
+use kb_runs::Script;
 use std::test::Fail;
 
 static PRORATIONS: [Row; 7] = [

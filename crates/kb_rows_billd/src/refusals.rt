@@ -1,7 +1,8 @@
 //! Commands that are refused, by each refusal.
 
 use crate::hold::hold_rows;
-use crate::rows::{Row, Script};
+use crate::rows::Row;
+use kb_runs::Script;
 use std::test::Fail;
 
 static REFUSALS: [Row; 5] = [

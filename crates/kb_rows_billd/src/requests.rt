@@ -1,7 +1,8 @@
 //! Lines that are no commands of an account, and ones that are refused.
 
 use crate::hold::hold_rows;
-use crate::rows::{Row, Script};
+use crate::rows::Row;
+use kb_runs::Script;
 use std::test::Fail;
 
 static REQUESTS: [Row; 3] = [

@@ -1,20 +1,6 @@
 //! What a row is.
 
-use kb_gateway::{Seen, Told};
-
-/// What the gateway of each lane does: how it answers orders and look-ups, and its calls that fail.
-pub(crate) struct Script {
-    pub(crate) told: &'static [Told],
-    pub(crate) seen: &'static [Seen],
-    pub(crate) failing: &'static [u64],
-}
-
-/// A gateway that has nothing to say.
-pub(crate) static SILENT: Script = Script {
-    told: &[],
-    seen: &[],
-    failing: &[],
-};
+use kb_runs::Script;
 
 /// Lines that a new shop is run on, with their answers.
 pub(crate) struct Row {

@@ -1,11 +1,11 @@
 //! Runs that go on where another one ended.
-ghost use Rattle.kb_rows_billd.specs.Insides.{AllInside};
+ghost use Rattle.kb_runs.specs.Insides.{AllInside};
 
-use crate::hold::{found, hold_run};
+use crate::hold::hold_run;
 use crate::payments::PAYMENTS;
-use crate::rows::{Row, Script};
-use crate::shops::empty_vault;
+use crate::rows::Row;
 use kb_gateway::{Seen, Told};
+use kb_runs::{Script, empty_vault, make_lanes};
 use kb_vault::MemoryVault;
 use std::alloc::{AllocError, Global};
 use std::process::Abort;
@@ -134,7 +134,7 @@ fn hold_parts(
     requires inside { AllInside vault.old }
     ensures inside { AllInside vault.new }
 {
-    found(rt, alloc, vault, 1, row.overdue)?;
+    make_lanes(alloc, vault, 1, row.overdue)?;
     hold_part(rt, alloc, vault, row, (0, cut), &row.script)?;
     hold_part(rt, alloc, vault, row, (cut, 100), second)
 }

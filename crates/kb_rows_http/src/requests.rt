@@ -1,7 +1,7 @@
 //! What a request holds.
 
 use kb_days::Name;
-use kb_http::{Allow, Method, Route};
+use kb_paths::{Allow, Method, Route};
 use std::test::Fail;
 
 #[test]

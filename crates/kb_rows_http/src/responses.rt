@@ -1,7 +1,8 @@
 //! Responses, one of each status, and how they are sent.
 
-use kb_http::{Allow, Conn, response_bytes};
+use kb_http::{Conn, response_bytes};
 use kb_links::PairLink;
+use kb_paths::Allow;
 use kb_ports::Sips;
 use std::test::Fail;
 

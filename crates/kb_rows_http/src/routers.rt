@@ -1,6 +1,6 @@
 //! A router of `matchit` beside the service's own reading of paths.
 
-use kb_http::{Method, Route};
+use kb_paths::{Method, Route};
 use kb_routes::{Kind, kind_at, service_router};
 use std::test::Fail;
 

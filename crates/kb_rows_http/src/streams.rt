@@ -1,7 +1,8 @@
 //! Streams of bytes: the requests that they give and how they end, whole and cut at each byte.
 
-use kb_http::{Allow, Conn, HttpNext, Route};
+use kb_http::{Conn, HttpNext};
 use kb_links::PairLink;
+use kb_paths::{Allow, Route};
 use kb_ports::Sips;
 use std::alloc::{AllocError, Global};
 use std::test::Fail;

@@ -4,6 +4,8 @@
 #[cfg(test)]
 mod compare;
 #[cfg(test)]
+mod heights;
+#[cfg(test)]
 mod shared_lists;
 #[cfg(test)]
 mod shared_maps;

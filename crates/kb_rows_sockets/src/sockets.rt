@@ -1,6 +1,7 @@
 //! Connections over TCP, from this process to itself.
 
-use kb_http::{Conn, HttpNext, Route};
+use kb_http::{Conn, HttpNext};
+use kb_paths::Route;
 use kb_sockets::{Door, Link, TcpDoor, TcpLink};
 use std::io::{Read, Write};
 use std::net::TcpStream;

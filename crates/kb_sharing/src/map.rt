@@ -4,8 +4,6 @@ ghost use Rattle.std.specs.FinMap as map;
 ghost use Rattle.kb_sharing.specs.Keys.{first_behind};
 
 mod growth;
-#[cfg(test)]
-mod tests;
 mod tree;
 
 use crate::Key;
@@ -68,6 +66,12 @@ impl<K: Key, V> SharedMap<K, V> {
         ensures { result ≡ map.len self.now }
     {
         self.len
+    }
+
+    /// How high the tree of its entries is: a look-up meets at most so many of them. That it stays low is
+    /// only tested.
+    pub fn height(&self) -> u8 {
+        self.root.height()
     }
 
     /// The value at a key.

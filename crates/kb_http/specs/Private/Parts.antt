@@ -1,27 +1,14 @@
 -- What the code's own parts give.
-use Rattle.std.specs.Prelude.{ℕ, Bool, ◌≡◌, ◌≤◌, ◌⊎◌, ◌+◌, ◌*◌, min, if◌then◌else◌}
+use Rattle.std.specs.Prelude.{ℕ, Bool, ◌≡◌, ◌≤◌, ◌⊎◌, if◌then◌else◌}
 use Rattle.std.specs.Prelude.{List, [], ◌∷◌, length, drop, codes}
 use Rattle.std.specs.Prelude.{Option, Some, None, Result, Ok, Err}
-use Rattle.std.specs.Char.{is_ascii_digit, digit_value}
 use Rattle.httparse.specs.Grammar.{RequestHead, print_request, ReadsRequest, HasNoRequest, MayBecomeRequest}
 use Rattle.kb_http.specs.declared.head.Head.{Head}
 use Rattle.kb_http.specs.declared.head.Seen.{Seen}
 use Rattle.kb_http.specs.declared.head.Seen.TheVariants.{Whole, Part, Refused}
-use Rattle.kb_http.specs.Words.{is_number, number_of}
 use Rattle.kb_http.specs.Heads.{is_named, max_fields, fields_of, told_length, framing_of, asks_for_end}
-use Rattle.kb_http.specs.Routes.{method_of, route_of}
+use Rattle.kb_paths.specs.Routes.{method_of, route_of}
 use Rattle.kb_http.specs.Requests.{IsHopeless, HasFurtherField}
-
--- the number that a text stands for, or the limit if it is greater; none where it is no number
-abbrev pub number_up_to : ℕ → List ℕ → Option ℕ
-number_up_to limit text = if is_number text then Some (min (number_of text) limit) else None
-
--- the number that digits give behind those that gave this value, or the limit if it is greater
-abbrev pub number_from : ℕ → ℕ → List ℕ → Option ℕ
-number_from limit value [] = Some value
-number_from limit value (digit ∷ digits) =
-    if is_ascii_digit digit then number_from limit (min (value * 10 + digit_value digit) limit) digits
-    else None
 
 -- what the parts of a head ask, as the code keeps it
 pub record Asks (method target : List ℕ) (minor : ℕ) (fields : List (List ℕ × List ℕ)) (found : Head)

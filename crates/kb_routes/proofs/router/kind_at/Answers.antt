@@ -2,7 +2,7 @@ use Rattle.std.proofs.Common.{◌∙◌, ap, sym}
 use Rattle.std.specs.Prelude.{option_map}
 use Rattle.matchit.specs.Router.{RouteOf}
 use Rattle.kb_base.specs.Lines.{pieces}
-use Rattle.kb_http.specs.Routes.{slash}
+use Rattle.kb_paths.specs.Routes.{slash}
 use Rattle.kb_routes.specs.declared.kind.Kind.{Kind}
 use Rattle.kb_routes.specs.Places.{place_by}
 use Rattle.kb_routes.proofs.AgreedRoutes.{first-held, places_are_kinds, IsText-bytes}
