@@ -16,8 +16,8 @@ use std::test::Fail;
 /// The words of a run over lines.
 pub const APPLY: &str = "apply --dir shop --gateway g";
 
-/// Makes so many lanes of the shop, with this overdue text. Nothing is read, and nothing written; else it is an
-/// error.
+/// Makes so many lanes of the shop, with this overdue text. It is an error if the status isn't 0 or anything
+/// is written.
 pub fn make_lanes(
     alloc: Global,
     vault: &mut MemoryVault,
