@@ -2,7 +2,7 @@
 //!
 //! The rule kept here: however a stream of bytes is cut, its requests come one after another, each with just
 //! its own bytes, and a stream without a further one is refused or ends by one stated cause. A leaf: it knows
-//! paths and bodies, and no account.
+//! heads and bodies, and no account.
 #![tactic(auto)]
 
 mod conn;

@@ -3,7 +3,8 @@ ghost use Rattle.std.specs.Prelude.{◌≡◌, ◌≤◌, ◌^◌};
 ghost use Rattle.kb_paths.specs.Numbers.{number_up_to};
 ghost use Rattle.kb_paths.specs.Private.DigitsBehind.{number_from};
 
-/// The number that decimal digits stand for, or the limit if it is greater; none if they are no number.
+/// The number that decimal digits stand for, or the limit if it is greater; none if they are no number. The
+/// limit is at most 2^32.
 #[tactic(auto, using(crate::proofs::Digits::number_from_some))]
 pub fn number(text: &[u8], limit: u64) -> Option<u64>
     requires { limit ≤ 2 ^ 32 }

@@ -126,5 +126,5 @@ static CHANGES: [Row; 6] = [
 
 #[test]
 fn changes(rt: HostRuntime) -> Result<(), Fail> {
-    hold_rows(&rt, rt.alloc(), &CHANGES)
+    hold_rows(rt.alloc(), &CHANGES)
 }

@@ -2,12 +2,11 @@
 ghost use Rattle.kb_runs.specs.Insides.{AllInside};
 
 use crate::compare::same;
-use crate::hold::{ACCOUNT, hold_run};
 use crate::months::MONTHS;
 use crate::payments::PAYMENTS;
 use crate::rows::Row;
 use kb_gateway::{Seen, Told};
-use kb_runs::{APPLY, Script, empty_vault, make_lanes, market_behind, run};
+use kb_runs::{ACCOUNT, APPLY, Script, empty_vault, hold_run, make_lanes, market_behind, run};
 use kb_vault::MemoryVault;
 use std::alloc::Global;
 use std::process::Abort;
@@ -147,18 +146,9 @@ fn hold_fault_on(
     make_lanes(alloc, vault, 1, row.overdue)?;
     hold_failing(rt, alloc, vault, row, calls)?;
     let wanted = format!(in alloc; "{charged},{failed}\n")?;
-    hold_run(rt, alloc, vault, 1, &PAID, ACCOUNT, &wanted, &(row.name, 1))?;
+    hold_run(alloc, vault, 1, &PAID, ACCOUNT, &wanted, row.name)?;
     let wanted = format!(in alloc; "{{\"status\":\"ok\"}}\n{charged},{settled}\n")?;
-    hold_run(
-        rt,
-        alloc,
-        vault,
-        1,
-        &PAID,
-        LOOKED_UP,
-        &wanted,
-        &(row.name, 1),
-    )
+    hold_run(alloc, vault, 1, &PAID, LOOKED_UP, &wanted, row.name)
 }
 
 /// Looks the open payments up, and asks how the account stands.

@@ -49,5 +49,5 @@ pub(crate) static MONTHS: [Row; 1] = [Row {
 
 #[test]
 fn months(rt: HostRuntime) -> Result<(), Fail> {
-    hold_rows(&rt, rt.alloc(), &MONTHS)
+    hold_rows(rt.alloc(), &MONTHS)
 }

@@ -109,5 +109,5 @@ pub(crate) static PAYMENTS: [Row; 4] = [
 
 #[test]
 fn payments(rt: HostRuntime) -> Result<(), Fail> {
-    hold_rows(&rt, rt.alloc(), &PAYMENTS)
+    hold_rows(rt.alloc(), &PAYMENTS)
 }

@@ -122,5 +122,5 @@ static PRORATIONS: [Row; 7] = [
 
 #[test]
 fn prorations(rt: HostRuntime) -> Result<(), Fail> {
-    hold_rows(&rt, rt.alloc(), &PRORATIONS)
+    hold_rows(rt.alloc(), &PRORATIONS)
 }

@@ -138,5 +138,5 @@ static REFUSALS: [Row; 5] = [
 
 #[test]
 fn refusals(rt: HostRuntime) -> Result<(), Fail> {
-    hold_rows(&rt, rt.alloc(), &REFUSALS)
+    hold_rows(rt.alloc(), &REFUSALS)
 }

@@ -68,5 +68,5 @@ not JSON
 
 #[test]
 fn requests(rt: HostRuntime) -> Result<(), Fail> {
-    hold_rows(&rt, rt.alloc(), &REQUESTS)
+    hold_rows(rt.alloc(), &REQUESTS)
 }

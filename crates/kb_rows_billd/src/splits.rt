@@ -1,14 +1,12 @@
 //! Runs that go on where another one ended.
 ghost use Rattle.kb_runs.specs.Insides.{AllInside};
 
-use crate::hold::hold_run;
 use crate::payments::PAYMENTS;
 use crate::rows::Row;
 use kb_gateway::{Seen, Told};
-use kb_runs::{Script, empty_vault, make_lanes};
+use kb_runs::{Script, empty_vault, hold_run, make_lanes};
 use kb_vault::MemoryVault;
 use std::alloc::{AllocError, Global};
-use std::process::Abort;
 use std::test::Fail;
 
 /// The row whose lines are cut in two, the fewest and the most lines of the first part, and what the
@@ -82,23 +80,22 @@ static SPLITS: [Split; 6] = [
 #[test]
 fn two_runs_answer_as_one(rt: HostRuntime) -> Result<(), Fail> {
     for split in &SPLITS {
-        hold_split(&rt, rt.alloc(), split)?;
+        hold_split(rt.alloc(), split)?;
     }
     Ok(())
 }
 
-fn hold_split(rt: &impl Abort, alloc: Global, split: &Split) -> Result<(), Fail> {
+fn hold_split(alloc: Global, split: &Split) -> Result<(), Fail> {
     let (name, from, to, ..) = *split;
     for row in &PAYMENTS {
         if row.name == name {
-            hold_cuts(rt, alloc, row, from, to, &split.3)?;
+            hold_cuts(alloc, row, from, to, &split.3)?;
         }
     }
     Ok(())
 }
 
 fn hold_cuts(
-    rt: &impl Abort,
     alloc: Global,
     row: &Row,
     from: usize,
@@ -106,25 +103,18 @@ fn hold_cuts(
     second: &Script,
 ) -> Result<(), Fail> {
     for cut in from..to {
-        hold_cut(rt, alloc, row, cut, second)?;
+        hold_cut(alloc, row, cut, second)?;
     }
-    hold_cut(rt, alloc, row, to, second)
+    hold_cut(alloc, row, to, second)
 }
 
 /// Two runs over the same vault answer the lines of a row, so many in the first one.
-fn hold_cut(
-    rt: &impl Abort,
-    alloc: Global,
-    row: &Row,
-    cut: usize,
-    second: &Script,
-) -> Result<(), Fail> {
+fn hold_cut(alloc: Global, row: &Row, cut: usize, second: &Script) -> Result<(), Fail> {
     let mut vault = empty_vault(alloc)?;
-    hold_parts(rt, alloc, &mut vault, row, cut, second)
+    hold_parts(alloc, &mut vault, row, cut, second)
 }
 
 fn hold_parts(
-    rt: &impl Abort,
     alloc: Global,
     vault: &mut MemoryVault,
     row: &Row,
@@ -135,13 +125,12 @@ fn hold_parts(
     ensures inside { AllInside vault.new }
 {
     make_lanes(alloc, vault, 1, row.overdue)?;
-    hold_part(rt, alloc, vault, row, (0, cut), &row.script)?;
-    hold_part(rt, alloc, vault, row, (cut, 100), second)
+    hold_part(alloc, vault, row, (0, cut), &row.script)?;
+    hold_part(alloc, vault, row, (cut, 100), second)
 }
 
 /// A run answers the lines of a row from one place to another.
 fn hold_part(
-    rt: &impl Abort,
     alloc: Global,
     vault: &mut MemoryVault,
     row: &Row,
@@ -153,7 +142,7 @@ fn hold_part(
 {
     let input = part_of(alloc, row.lines, places)?;
     let wanted = part_of(alloc, row.answers, places)?;
-    hold_run(rt, alloc, vault, 1, script, &input, &wanted, &(row.name, 1))
+    hold_run(alloc, vault, 1, script, &input, &wanted, row.name)
 }
 
 /// The lines of a text from one place to another.

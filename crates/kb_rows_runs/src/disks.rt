@@ -2,8 +2,10 @@
 ghost use Rattle.kb_runs.specs.Insides.{AllInside};
 
 use crate::compare::same;
-use crate::hold::{hold_account, hold_run};
-use kb_runs::{APPLY, SILENT, Script, bytes_in, empty_vault, make_lanes, market_of, run, vault_on};
+use kb_runs::{
+    APPLY, SILENT, Script, bytes_in, empty_vault, hold_account, hold_run, make_lanes, market_of,
+    run, vault_on,
+};
 use kb_vault::MemoryVault;
 use std::alloc::Global;
 use std::process::Abort;
@@ -137,7 +139,7 @@ fn hold_fault(
     let mut failing = vault_on(alloc, bytes.to_vec(alloc)?, &[call])?;
     hold_stopped(rt, alloc, &mut failing, call, &SILENT, LINES, row.2)?;
     let mut whole = vault_on(alloc, bytes_in(alloc, &mut failing)?, &[])?;
-    hold_again(rt, alloc, &mut whole, row.3)
+    hold_again(alloc, &mut whole, row.3)
 }
 
 /// A run ends with the fault. What the lane can't do any more is answered so.
@@ -161,15 +163,10 @@ pub(crate) fn hold_stopped(
 }
 
 /// Each command that was answered is there, and lines that are sent again get the answers of a whole run.
-fn hold_again(
-    rt: &impl Abort,
-    alloc: Global,
-    vault: &mut MemoryVault,
-    account: &str,
-) -> Result<(), Fail>
+fn hold_again(alloc: Global, vault: &mut MemoryVault, account: &str) -> Result<(), Fail>
     requires inside { AllInside vault.old }
     ensures inside { AllInside vault.new }
 {
-    hold_account(rt, alloc, vault, 1, account, &("disks", 1))?;
-    hold_run(rt, alloc, vault, 1, &SILENT, LINES, ANSWERS, &("disks", 1))
+    hold_account(alloc, vault, 1, account, "disks")?;
+    hold_run(alloc, vault, 1, &SILENT, LINES, ANSWERS, "disks")
 }

@@ -2,12 +2,11 @@
 ghost use Rattle.kb_runs.specs.Insides.{AllInside};
 
 use crate::compare::same;
-use crate::hold::hold_run;
 use kb_gateway::Told;
 use kb_ports::{BytesSink, BytesSource};
 use kb_runs::{
-    APPLY, SILENT, Script, empty_vault, failing_market, laneless, make_lanes, market_of, run,
-    run_between,
+    APPLY, SILENT, Script, empty_vault, failing_market, hold_run, laneless, make_lanes, market_of,
+    run, run_between,
 };
 use kb_vault::MemoryVault;
 use std::alloc::Global;
@@ -79,7 +78,7 @@ fn hold_stream_on(
     make_lanes(alloc, vault, 1, "o")?;
     hold_broken(rt, alloc, vault, row)?;
     let again = if row.0 == 1 { &ACCEPTS } else { &REFUSES };
-    hold_run(rt, alloc, vault, 1, again, LINES, ANSWERS, &("again", 1))
+    hold_run(alloc, vault, 1, again, LINES, ANSWERS, "again")
 }
 
 fn hold_broken(
@@ -118,16 +117,7 @@ fn hold_markets(rt: &impl Abort, alloc: Global, vault: &mut MemoryVault) -> Resu
     hold_market(rt, alloc, vault, 1)?;
     hold_market(rt, alloc, vault, 2)?;
     hold_market(rt, alloc, vault, 3)?;
-    hold_run(
-        rt,
-        alloc,
-        vault,
-        3,
-        &ACCEPTS,
-        LINES,
-        ANSWERS,
-        &("markets", 3),
-    )
+    hold_run(alloc, vault, 3, &ACCEPTS, LINES, ANSWERS, "markets")
 }
 
 /// A run that a call of the market ended says so.

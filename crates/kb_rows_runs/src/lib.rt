@@ -10,8 +10,6 @@ mod faults;
 #[cfg(test)]
 mod folders;
 #[cfg(test)]
-mod hold;
-#[cfg(test)]
 mod long_lines;
 #[cfg(test)]
 mod made;

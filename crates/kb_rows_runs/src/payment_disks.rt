@@ -2,9 +2,8 @@
 ghost use Rattle.kb_runs.specs.Insides.{AllInside};
 
 use crate::disks::{founded_bytes, hold_stopped};
-use crate::hold::hold_run;
 use kb_gateway::{Seen, Told};
-use kb_runs::{Script, bytes_in, vault_on};
+use kb_runs::{Script, bytes_in, hold_run, vault_on};
 use kb_vault::MemoryVault;
 use std::alloc::Global;
 use std::process::Abort;
@@ -156,27 +155,20 @@ fn hold_fault(
         fault.answers,
     )?;
     let mut whole = vault_on(alloc, bytes_in(alloc, &mut failing)?, &[])?;
-    hold_again(rt, alloc, &mut whole, fault)
+    hold_again(alloc, &mut whole, fault)
 }
 
-fn hold_again(
-    rt: &impl Abort,
-    alloc: Global,
-    vault: &mut MemoryVault,
-    fault: &Fault,
-) -> Result<(), Fail>
+fn hold_again(alloc: Global, vault: &mut MemoryVault, fault: &Fault) -> Result<(), Fail>
     requires inside { AllInside vault.old }
     ensures inside { AllInside vault.new }
 {
-    let shown = ("payments", 1);
     hold_run(
-        rt,
         alloc,
         vault,
         1,
         &fault.script,
         AGAIN,
         fault.again,
-        &shown,
+        "payments",
     )
 }

@@ -2,10 +2,9 @@
 ghost use Rattle.kb_runs.specs.Insides.{AllInside};
 
 use crate::compare::same;
-use crate::hold::hold_run;
 use kb_gateway::Told;
 use kb_ports::{BytesSink, BytesSource};
-use kb_runs::{SILENT, Script, empty_vault, make_lanes, market_of, run, run_between};
+use kb_runs::{SILENT, Script, empty_vault, hold_run, make_lanes, market_of, run, run_between};
 use kb_vault::MemoryVault;
 use std::alloc::Global;
 use std::process::Abort;
@@ -89,12 +88,11 @@ fn hold_reports_on(
     requires inside { AllInside vault.old }
     ensures inside { AllInside vault.new }
 {
-    let row = ("reports", lanes);
     make_lanes(alloc, vault, lanes, "o")?;
-    hold_run(rt, alloc, vault, lanes, &ACCEPTS, LINES, ANSWERS, &row)?;
+    hold_run(alloc, vault, lanes, &ACCEPTS, LINES, ANSWERS, "reports")?;
     hold_each(rt, alloc, vault, &REPORTS)?;
     hold_cut(rt, alloc, vault)?;
-    hold_run(rt, alloc, vault, lanes, &SILENT, LINES, ANSWERS, &row)
+    hold_run(alloc, vault, lanes, &SILENT, LINES, ANSWERS, "reports")
 }
 
 /// Holds reports, one after another.

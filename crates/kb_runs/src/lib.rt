@@ -4,11 +4,13 @@
 //! uses it.
 #![tactic(auto)]
 
+mod holding;
 mod runs;
 mod script;
 mod shops;
 
-pub use runs::{APPLY, answered, make_lanes, run, run_between};
+pub use holding::{ACCOUNT, hold_account, hold_run};
+pub use runs::{APPLY, make_lanes, run, run_between};
 pub use script::{SILENT, Script};
 pub use shops::{
     bytes_in, empty_vault, failing_market, laneless, market_behind, market_of, vault_of_two,

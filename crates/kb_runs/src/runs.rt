@@ -2,8 +2,8 @@
 ghost use Rattle.std.specs.Prelude.{◌≡◌, ℕ, false, List};
 ghost use Rattle.kb_runs.specs.Insides.{AllInside};
 
+use crate::SILENT;
 use crate::shops::market_of;
-use crate::{SILENT, Script};
 use kb_billd::billd;
 use kb_clock::{Clock, FixedClock};
 use kb_gateway::{ListMarket, Market};
@@ -37,21 +37,6 @@ pub fn make_lanes(
     } else {
         Err("a shop".into())
     }
-}
-
-/// Runs the shop's lanes over an input: the status, and what was written.
-pub fn answered(
-    alloc: Global,
-    vault: &mut MemoryVault,
-    lanes: u32,
-    script: &Script,
-    input: &str,
-) -> Result<(u8, String), Fail>
-    requires inside { AllInside vault.old }
-    ensures inside { AllInside vault.new }
-{
-    let mut market = market_of(alloc, lanes, script)?;
-    run(alloc, vault, &mut market, APPLY, input)
 }
 
 /// Runs the program with words over an input, on 2024-03-01: its status, and what it wrote.
