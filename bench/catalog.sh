@@ -14,7 +14,7 @@ cd "$(dirname "$0")/.."
 . bench/repository.sh
 
 program=catalog_times
-libraries='kb_base kb_days kb_money kb_catalog'
+libraries='kb_base kb_days kb_money kb_plans kb_catalog'
 
 write_program() {
     cat <<'END'
@@ -23,10 +23,11 @@ write_program() {
 #![tactic(auto)]
 
 use kb_base::Seq;
-use kb_catalog::{
+use kb_catalog::{Valid, Version};
+use kb_plans::{
     Align, BillingAlign, BillingCase, CancelCase, Category, ChangeAlignmentCase, ChangeAsk,
     ChangePolicyCase, CreateAlign, CreateCase, Phase, PhaseType, Plan, PlanAsk, PlanCondition,
-    Policy, Price, PriceList, Product, Rules, Valid, Version,
+    Policy, Price, PriceList, Product, Rules,
 };
 use kb_days::{Day, Name, Period, Span};
 use kb_money::{Currency, Minor};

@@ -13,8 +13,8 @@ cd "$(dirname "$0")/.."
 . bench/repository.sh
 
 program=codec_times
-libraries='kb_base kb_days kb_money kb_lists kb_sharing kb_catalog kb_overdue kb_blocking kb_payment
-    kb_catalog_text kb_codec'
+libraries='kb_base kb_days kb_money kb_lists kb_sharing kb_plans kb_catalog kb_overdue kb_blocking
+    kb_payment kb_tables kb_catalog_text kb_commands kb_members kb_codec'
 libraries=$(echo $libraries)
 
 write_program() {
@@ -25,7 +25,8 @@ write_program() {
 
 use kb_base::NoMemory;
 use kb_catalog_text::read;
-use kb_codec::{Command, decode, encode};
+use kb_codec::{decode, encode};
+use kb_commands::Command;
 use std::alloc::Global;
 use std::io;
 use std::time::Instant;

@@ -19,7 +19,7 @@ cd "$(dirname "$0")/.."
 . bench/repository.sh
 
 program=pieces_times
-libraries='kb_base kb_days kb_money kb_catalog kb_align kb_timeline kb_blocking kb_due kb_events'
+libraries='kb_base kb_days kb_money kb_plans kb_catalog kb_align kb_timeline kb_blocking kb_due kb_events'
 
 write_program() {
     cat <<'END'
@@ -29,10 +29,11 @@ write_program() {
 
 use kb_base::Seq;
 use kb_blocking::{BlockState, Blocks, Flags, Scope};
-use kb_catalog::{
-    Align, BillingAlign, BillingCase, CancelCase, Catalog, Category, ChangeAlignmentCase,
-    ChangePolicyCase, CreateAlign, CreateCase, Phase, PhaseType, Plan, PlanCondition, Policy,
-    Price, PriceList, Product, Rules, Valid, Version,
+use kb_catalog::{Catalog, Valid, Version};
+use kb_plans::{
+    Align, BillingAlign, BillingCase, CancelCase, Category, ChangeAlignmentCase, ChangePolicyCase,
+    CreateAlign, CreateCase, Phase, PhaseType, Plan, PlanCondition, Policy, Price, PriceList,
+    Product, Rules,
 };
 use kb_days::{Bcd, Day, Name, Period, Span};
 use kb_due::Facts;

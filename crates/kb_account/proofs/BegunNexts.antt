@@ -8,8 +8,8 @@ use Rattle.kb_credit.specs.declared.row.Row.{Row}
 use Rattle.kb_credit.specs.Sizes.{size_of}
 use Rattle.kb_credit.specs.Items.{amount_of}
 use Rattle.kb_credit.specs.InvoiceEdits.{max_sum}
-use Rattle.kb_codec.specs.declared.command.Command.{Command}
-use Rattle.kb_codec.specs.declared.command.Command.TheVariants as kinds
+use Rattle.kb_commands.specs.declared.command.Command.{Command}
+use Rattle.kb_commands.specs.declared.command.Command.TheVariants as kinds
 use Rattle.kb_billing.specs.Numbers.{AreBelow}
 use Rattle.kb_billing.specs.ItemLines.{IsItemLine}
 use Rattle.kb_book.specs.Worlds.{WorldValue}

@@ -12,8 +12,8 @@ use Rattle.kb_credit.specs.Items.{amount_of, is_adjustment}
 use Rattle.kb_credit.specs.InvoiceRows.{InvoicesValue, credit, unpaid}
 use Rattle.kb_credit.specs.InvoiceEdits.{levelled, issued}
 use Rattle.kb_payment.specs.PaymentSums.{PaymentsValue}
-use Rattle.kb_codec.specs.declared.command.Command.{Command}
-use Rattle.kb_codec.specs.declared.command.Command.TheVariants as kinds
+use Rattle.kb_commands.specs.declared.command.Command.{Command}
+use Rattle.kb_commands.specs.declared.command.Command.TheVariants as kinds
 use Rattle.kb_billing.specs.ItemLines.{IsItemLine}
 use Rattle.kb_book.specs.declared.answer.Answer.{Answer}
 use Rattle.kb_book.specs.declared.refusal.Refusal.TheVariants as refusal

@@ -9,9 +9,9 @@ use Rattle.kb_payment.specs.PaymentSums.{PaymentsValue}
 use Rattle.kb_payment.specs.PaymentEdits.{no_payments}
 use Rattle.kb_credit.specs.InvoiceRows.{InvoicesValue}
 use Rattle.kb_credit.specs.InvoiceEdits.{no_invoices}
-use Rattle.kb_codec.specs.declared.command.Command.{Command}
-use Rattle.kb_codec.specs.declared.command.Command.TheVariants as kinds
-use Rattle.kb_codec.specs.declared.command.OpenAccount.{OpenAccount}
+use Rattle.kb_commands.specs.declared.command.Command.{Command}
+use Rattle.kb_commands.specs.declared.command.Command.TheVariants as kinds
+use Rattle.kb_commands.specs.declared.command.OpenAccount.{OpenAccount}
 use Rattle.kb_codec.specs.Commands.{spelling}
 use Rattle.kb_book.specs.declared.answer.Answer.{Answer}
 use Rattle.kb_book.specs.Worlds.{WorldValue}

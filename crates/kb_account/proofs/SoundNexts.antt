@@ -7,7 +7,7 @@ use Rattle.kb_credit.specs.declared.line.Line.{Line}
 use Rattle.kb_credit.specs.Items.{amount_of}
 use Rattle.kb_credit.proofs.SizeLaws.{nat_abs-sum_of}
 use Rattle.kb_payment.specs.PaymentSums.{PaymentsValue}
-use Rattle.kb_codec.specs.declared.command.Command.{Command}
+use Rattle.kb_commands.specs.declared.command.Command.{Command}
 use Rattle.kb_billing.specs.ItemLines.{IsItemLine}
 use Rattle.kb_book.specs.declared.answer.Answer.{Answer}
 use Rattle.kb_book.specs.Worlds.{WorldValue}

@@ -16,7 +16,7 @@ ghost use Rattle.kb_account.specs.Private.LeavingCommands as leaving;
 use crate::{Begun, State, World};
 use kb_base::NoMemory;
 use kb_billing::{Issue, SubscriptionCharges, issue_due};
-use kb_codec::Command;
+use kb_commands::Command;
 use kb_credit::Line;
 use kb_days::Day;
 use kb_due::Facts;

@@ -17,7 +17,7 @@ use crate::{Kept, Next, Prepared, State, World};
 use kb_base::NoMemory;
 use kb_blocking::Blocks;
 use kb_book::{Answer, Unprepared};
-use kb_codec::{Command, OpenAccount};
+use kb_commands::{Command, OpenAccount};
 use kb_credit::Invoices;
 use kb_days::{Day, Name};
 use kb_money::Currency;

@@ -13,7 +13,7 @@ mod subscriptions;
 
 use crate::{Begun, State, World};
 use kb_book::{Refusal, Unprepared};
-use kb_codec::Command;
+use kb_commands::Command;
 use kb_days::Day;
 use std::alloc::Global;
 

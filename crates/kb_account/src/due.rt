@@ -9,7 +9,7 @@ ghost use Rattle.kb_account.specs.Private.States.{value_of};
 use crate::{State, World};
 use kb_base::NoMemory;
 use kb_blocking::MAX_STATES;
-use kb_codec::{Auto, Command, InvoiceNo, Overdue};
+use kb_commands::{Auto, Command, InvoiceNo, Overdue};
 use kb_days::{Day, Name, text};
 use kb_edits as edits;
 use std::alloc::Global;

@@ -5,7 +5,8 @@ ghost use Rattle.kb_codec.specs.Commands.{spelling};
 use crate::kept_answer::KeptAnswer;
 use kb_base::{NoMemory, Seq};
 use kb_book::Answer;
-use kb_codec::{Command, encode};
+use kb_codec::encode;
+use kb_commands::Command;
 use std::alloc::Global;
 use std::marker::Model;
 

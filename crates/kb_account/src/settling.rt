@@ -14,7 +14,7 @@ use crate::{Book, Next, State, World, issue_all};
 use kb_base::NoMemory;
 use kb_billing::Issue;
 use kb_book::Unprepared;
-use kb_codec::Command;
+use kb_commands::Command;
 use kb_days::Day;
 use std::alloc::Global;
 use std::sync::Arc;

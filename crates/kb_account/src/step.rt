@@ -24,7 +24,8 @@ use crate::{
 use kb_base::NoMemory;
 use kb_billing::{Issue, SubscriptionCharges};
 use kb_book::{Answer, Refusal, Unprepared};
-use kb_codec::{Command, encode};
+use kb_codec::encode;
+use kb_commands::Command;
 use kb_credit::{Invoices, Line, total_of};
 use kb_days::{Day, Name};
 use kb_sharing::SharedMap;

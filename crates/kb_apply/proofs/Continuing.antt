@@ -4,7 +4,7 @@ use Rattle.std.proofs.Common.{length, set, Some, Result, Ok, Err, arith, refl, a
 use Rattle.std.specs.List.{slice_get}
 use Rattle.kb_base.specs.Machine.{IsRun}
 use Rattle.kb_base.specs.Stream.{CutsFirst, IsDone, IsGivenUp}
-use Rattle.kb_codec.specs.declared.command.Command.{Command}
+use Rattle.kb_commands.specs.declared.command.Command.{Command}
 use Rattle.kb_reply.specs.declared.reply.LaneReply.{LaneReply}
 use Rattle.kb_reply.specs.declared.step.Step.{Step}
 use Rattle.kb_request.specs.declared.fault.RequestFault.{RequestFault}
@@ -18,8 +18,9 @@ use Rattle.kb_lane.proofs.Going.{itself_then, well_none, well_then}
 use Rattle.kb_lines.specs.declared.stop.Stop.{Stop}
 use Rattle.kb_lines.specs.declared.stop.Stop.TheVariants as stops
 use Rattle.kb_lines.specs.Reading.{IsStopped}
-use Rattle.kb_apply.specs.Continuing.{Continues, ContinueAll}
-use Rattle.kb_apply.specs.LaneRuns.{Outside, LanesValue, GoesAt, TextFrom, LookUpFrom, DrainFrom, DrainPart}
+use Rattle.kb_lanes.specs.Continuing.{Continues, ContinueAll}
+use Rattle.kb_apply.specs.LaneRuns.{Outside, LanesValue, TextFrom, LookUpFrom, DrainFrom, DrainPart}
+use Rattle.kb_lanes.specs.Places.{GoesAt}
 use Rattle.kb_apply.specs.LaneRuns.{ServesCommand, Serves, Answers, AnswersPart, lanes_machine}
 
 -- one of some goes on, and each other stays as it is

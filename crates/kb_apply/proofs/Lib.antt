@@ -1,5 +1,4 @@
 mod Accounts
 pub mod Continuing
-mod GoneOn
 mod LaneLoops
 mod Served

@@ -7,7 +7,7 @@ use Rattle.kb_base.specs.Lines.{line_feed}
 use Rattle.kb_days.specs.Calendar.{first_day, last_day}
 use Rattle.kb_gateway.specs.declared.order.Asked.{Asked}
 use Rattle.kb_gateway.specs.declared.told.Saying.{Saying}
-use Rattle.kb_codec.specs.declared.command.Command.{Command}
+use Rattle.kb_commands.specs.declared.command.Command.{Command}
 use Rattle.kb_book.specs.declared.refusal.Refusal.{Refusal}
 use Rattle.kb_book.specs.declared.refusal.Refusal.TheVariants as refusals
 use Rattle.kb_account.specs.declared.query.Query.{Query}
@@ -22,7 +22,8 @@ use Rattle.kb_lane.specs.Replies.{Performs}
 use Rattle.kb_lane.specs.LookingUp.{LooksAllUp}
 use Rattle.kb_lane.specs.Reading.{asked_account, view_of}
 use Rattle.kb_bills.specs.Drains.{Drains}
-use Rattle.kb_apply.specs.Continuing.{Continues}
+use Rattle.kb_lanes.specs.Continuing.{Continues}
+use Rattle.kb_lanes.specs.Places.{GoesAt, is_full_reply, is_full_step, is_taken_text}
 use Rattle.kb_desk.specs.Lanes.{lane_of}
 use Rattle.kb_request.specs.declared.fault.RequestFault.{RequestFault}
 use Rattle.kb_request.specs.declared.fault.RequestFault.TheVariants as faults
@@ -66,26 +67,6 @@ pub record LanesValue (D G C : Type 0) : Type 0 where
   pub lanes : List (LaneValue D G)
   pub clock : C
   pub full : Bool
-
--- The lane at a place goes on, and the others stay as they are.
-abbrev pub GoesAt : {L : Type 0} → (L → L → Type 0) → ℕ → List L → List L → Type 0
-GoesAt Goes place old new = (lane : _) × (next : _) × (slice_get old place ≡ Some lane)
-    × (new ≡ set old place next) × Goes lane next
-
--- there was no room
-abbrev pub is_full_reply : LaneReply → Bool
-is_full_reply (replies.Full commands size) = true
-is_full_reply reply = false
-
-abbrev pub is_full_step : Step → Bool
-is_full_step (steps.Full commands size) = true
-is_full_step step = false
-
--- a text is taken by a lane, now or before
-abbrev pub is_taken_text : LaneReply → Bool
-is_taken_text (replies.Version number) = true
-is_taken_text (replies.States number) = true
-is_taken_text reply = false
 
 -- The lane at a place performs a command, and replies so.
 abbrev pub PerformsAt : {D G C : Type 0} → Outside D G C → ℕ → Command → ℕ → LanesValue D G C

@@ -1,3 +1,2 @@
 pub mod Applying
-pub mod Continuing
 pub mod LaneRuns

@@ -3,7 +3,7 @@ ghost use Rattle.std.specs.Prelude.{◌≡◌, if◌then◌else◌, None, Some};
 ghost use Rattle.kb_machine.specs.Machines.{account_of, is_text};
 ghost use Rattle.kb_apply.specs.LaneRuns.{account_on};
 
-use kb_codec::Command;
+use kb_commands::Command;
 use kb_days::Name;
 use kb_lane::account_asked;
 use kb_request::What;

@@ -14,7 +14,7 @@ use kb_account::Query;
 use kb_base::NoMemory;
 use kb_book::Unprepared;
 use kb_clock::Clock;
-use kb_codec::Command;
+use kb_commands::Command;
 use kb_days::Day;
 use kb_disk::Disk;
 use kb_gateway::Gateway;

@@ -1,18 +1,14 @@
 //! What a line left to do, done.
 ghost use Rattle.std.specs.Prelude.{◌≡◌, ◌≤◌, ◌<◌, ◌+◌, length, OnOk, OnErr};
-ghost use Rattle.kb_bills.specs.Drains.{Drains};
-ghost use Rattle.kb_apply.specs.Continuing.{Continues};
-ghost use Rattle.kb_apply.specs.LaneRuns.{outside_of, DrainFrom, DrainPart, DrainsAt, GoesAt};
+ghost use Rattle.kb_apply.specs.LaneRuns.{outside_of, DrainFrom, DrainPart, DrainsAt};
 
 use crate::Lanes;
-use crate::lanes::is_full_step;
 use kb_base::NoMemory;
-use kb_bills::drain;
 use kb_clock::Clock;
 use kb_days::Day;
 use kb_disk::Disk;
 use kb_gateway::Gateway;
-use kb_lane::Lane;
+use kb_lanes::{drain_in, is_full_step};
 use kb_reply::Step;
 use std::alloc::Global;
 
@@ -55,20 +51,4 @@ impl<D: Disk, G: Gateway + Drop, C: Clock + Drop> Lanes<D, G, C> {
         self.full |= is_full_step(step);
         step
     }
-}
-
-/// Drains one of some lanes.
-fn drain_in<D: Disk, G: Gateway + Drop>(
-    lanes: &mut Vec<Lane<D, G>>,
-    alloc: Global,
-    today: Day,
-    place: usize,
-) -> Step
-    requires within { place < length lanes.old.items }
-    ensures drained { GoesAt (λ lane next. Drains D.fault_count G.asked G.said G.faults today lane next result
-        × Continues D.honest D.moment D.left_since D.fault_count lane next) place lanes.old.items
-        lanes.new.items }
-    ensures count { length lanes.new.items ≡ length lanes.old.items }
-{
-    drain(&mut lanes[place], alloc, today)
 }

@@ -1,20 +1,19 @@
 //! Lanes, beside the clock by which they answer.
 ghost use Rattle.std.specs.Prelude.{◌≡◌, ◌≤◌, ◌<◌, true, false, length};
 ghost use Rattle.kb_machine.specs.Machines.{is_callers};
-ghost use Rattle.kb_lane.specs.Replies.{Performs};
 ghost use Rattle.kb_desk.specs.Lanes.{lane_of};
-ghost use Rattle.kb_apply.specs.Continuing.{Continues};
-ghost use Rattle.kb_apply.specs.LaneRuns.{outside_of, is_full_reply, is_full_step, GoesAt, IsDayOf};
+ghost use Rattle.kb_apply.specs.LaneRuns.{outside_of, IsDayOf};
 ghost use Rattle.kb_apply.specs.LaneRuns.{PerformsAt};
 
 use kb_clock::Clock;
-use kb_codec::Command;
+use kb_commands::Command;
 use kb_days::{Day, Name};
 use kb_desk::lane_of;
 use kb_disk::Disk;
 use kb_gateway::Gateway;
 use kb_lane::Lane;
-use kb_reply::{LaneReply, Step};
+use kb_lanes::{is_full_reply, perform_in};
+use kb_reply::LaneReply;
 use std::alloc::Global;
 use std::marker::Model;
 
@@ -111,43 +110,5 @@ impl<D: Disk, G: Gateway + Drop, C: Clock + Drop> Lanes<D, G, C> {
         let reply = perform_in(&mut self.lanes, alloc, today, command, place);
         self.full |= is_full_reply(reply);
         reply
-    }
-}
-
-/// One of some lanes performs a command.
-fn perform_in<D: Disk, G: Gateway + Drop>(
-    lanes: &mut Vec<Lane<D, G>>,
-    alloc: Global,
-    today: Day,
-    command: &Command,
-    place: usize,
-) -> LaneReply
-    requires callers { is_callers command.now ≡ true }
-    requires within { place < length lanes.old.items }
-    ensures performed { GoesAt (λ lane next. Performs D.fault_count lane next today command.now result
-        × Continues D.honest D.moment D.left_since D.fault_count lane next) place lanes.old.items
-        lanes.new.items }
-    ensures count { length lanes.new.items ≡ length lanes.old.items }
-{
-    lanes[place].perform(alloc, today, command)
-}
-
-/// Whether there was no room for a command.
-fn is_full_reply(reply: LaneReply) -> bool
-    ensures { result ≡ is_full_reply reply }
-{
-    match reply {
-        LaneReply::Full { .. } => true,
-        _ => false,
-    }
-}
-
-/// Whether there was no room for what a step was to write down.
-pub(crate) fn is_full_step(step: Step) -> bool
-    ensures { result ≡ is_full_step step }
-{
-    match step {
-        Step::Full { .. } => true,
-        _ => false,
     }
 }

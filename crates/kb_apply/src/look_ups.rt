@@ -1,16 +1,13 @@
 //! Payments whose outcome isn't known, looked up by all lanes.
 ghost use Rattle.std.specs.Prelude.{◌≡◌, ◌<◌, length};
-ghost use Rattle.kb_lane.specs.LookingUp.{LooksAllUp};
-ghost use Rattle.kb_apply.specs.Continuing.{Continues};
-ghost use Rattle.kb_apply.specs.LaneRuns.{outside_of, GoesAt, LookUpFrom, LooksUpAt};
+ghost use Rattle.kb_apply.specs.LaneRuns.{outside_of, LookUpFrom, LooksUpAt};
 
 use crate::Lanes;
-use crate::lanes::is_full_step;
 use kb_clock::Clock;
 use kb_days::Day;
 use kb_disk::Disk;
 use kb_gateway::Gateway;
-use kb_lane::Lane;
+use kb_lanes::{is_full_step, look_up_in};
 use kb_reply::Step;
 use std::alloc::Global;
 
@@ -45,21 +42,4 @@ impl<D: Disk, G: Gateway + Drop, C: Clock + Drop> Lanes<D, G, C> {
         self.full |= is_full_step(step);
         step
     }
-}
-
-/// One of some lanes looks its open payments up.
-fn look_up_in<D: Disk, G: Gateway + Drop>(
-    lanes: &mut Vec<Lane<D, G>>,
-    alloc: Global,
-    today: Day,
-    place: usize,
-) -> Step
-    requires within { place < length lanes.old.items }
-    ensures looked { GoesAt
-        (λ lane next. LooksAllUp D.fault_count G.asked G.said G.faults today lane next result
-        × Continues D.honest D.moment D.left_since D.fault_count lane next) place lanes.old.items
-        lanes.new.items }
-    ensures count { length lanes.new.items ≡ length lanes.old.items }
-{
-    lanes[place].janitor(alloc, today)
 }

@@ -1,14 +1,15 @@
 //! Texts, which go to all lanes.
 ghost use Rattle.std.specs.Prelude.{◌≡◌, ◌-◌, true, length};
 ghost use Rattle.kb_machine.specs.Machines.{is_callers};
-ghost use Rattle.kb_apply.specs.LaneRuns.{outside_of, is_taken_text, TextFrom};
+ghost use Rattle.kb_apply.specs.LaneRuns.{outside_of, TextFrom};
 
 use crate::Lanes;
 use kb_clock::Clock;
-use kb_codec::Command;
+use kb_commands::Command;
 use kb_days::Day;
 use kb_disk::Disk;
 use kb_gateway::Gateway;
+use kb_lanes::is_taken_text;
 use kb_reply::LaneReply;
 use std::alloc::Global;
 
@@ -35,15 +36,5 @@ impl<D: Disk, G: Gateway + Drop, C: Clock + Drop> Lanes<D, G, C> {
             }
         }
         self.perform_at(alloc, today, command, last)
-    }
-}
-
-/// Whether a reply tells that a text is taken, now or before.
-fn is_taken_text(reply: LaneReply) -> bool
-    ensures { result ≡ is_taken_text reply }
-{
-    match reply {
-        LaneReply::Version(_) | LaneReply::States(_) => true,
-        _ => false,
     }
 }

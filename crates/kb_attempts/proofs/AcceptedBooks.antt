@@ -10,10 +10,10 @@ use Rattle.kb_payment.specs.declared.attempt.Status.TheVariants.{Unknown, Succes
 use Rattle.kb_payment.specs.Attempts.{is_open, with_status}
 use Rattle.kb_payment.specs.PaymentSums.{PaymentsValue, attempt_of, with_attempt}
 use Rattle.kb_payment.specs.PaymentEdits.{amount_of, purchase_of, give_back_of, given_back, settled}
-use Rattle.kb_codec.specs.declared.command.Command.{Command}
-use Rattle.kb_codec.specs.declared.command.Command.TheVariants as kinds
-use Rattle.kb_codec.specs.declared.command.Auto.{Auto}
-use Rattle.kb_codec.specs.declared.command.Settle.{Settle}
+use Rattle.kb_commands.specs.declared.command.Command.{Command}
+use Rattle.kb_commands.specs.declared.command.Command.TheVariants as kinds
+use Rattle.kb_commands.specs.declared.command.Auto.{Auto}
+use Rattle.kb_commands.specs.declared.command.Settle.{Settle}
 use Rattle.kb_book.specs.declared.refusal.Refusal.TheVariants as refusal
 use Rattle.kb_book.specs.Worlds.{WorldValue}
 use Rattle.kb_book.specs.Books.{BookValue}

@@ -5,9 +5,9 @@ use Rattle.kb_days.specs.Calendar.{last_day}
 use Rattle.kb_payment.specs.declared.attempt.Attempt.{Attempt}
 use Rattle.kb_payment.specs.declared.attempt.Status.TheVariants.{Unknown}
 use Rattle.kb_payment.specs.PaymentSums.{attempt_of}
-use Rattle.kb_codec.specs.declared.command.Command.{Command}
-use Rattle.kb_codec.specs.declared.command.Command.TheVariants as kinds
-use Rattle.kb_codec.specs.declared.command.OpenAccount.{OpenAccount}
+use Rattle.kb_commands.specs.declared.command.Command.{Command}
+use Rattle.kb_commands.specs.declared.command.Command.TheVariants as kinds
+use Rattle.kb_commands.specs.declared.command.OpenAccount.{OpenAccount}
 use Rattle.kb_machine.specs.Judged.{after_judged, is_new}
 use Rattle.kb_machine.specs.Machines.{MachineValue, account_of, judged, is_text}
 use Rattle.kb_attempts.specs.Attempts.{attempt_in, attempt_at, begun_key}

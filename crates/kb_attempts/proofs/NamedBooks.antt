@@ -1,7 +1,7 @@
 -- Books stay found under the names of their accounts.
 use Rattle.std.proofs.Common.{◌≡◌, ℕ, List, [], ◌∷◌, Some, sym, ap, ◌∙◌}
 use Rattle.std.specs.List.{fold}
-use Rattle.kb_codec.specs.declared.command.Command.TheVariants as kinds
+use Rattle.kb_commands.specs.declared.command.Command.TheVariants as kinds
 use Rattle.kb_book.specs.Books.{BookValue}
 use Rattle.kb_account.specs.Prepares.{opening_book}
 use Rattle.kb_log.specs.Entries.{History}

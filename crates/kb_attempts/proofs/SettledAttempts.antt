@@ -6,8 +6,8 @@ use Rattle.kb_payment.specs.declared.attempt.Status.{Status}
 use Rattle.kb_payment.specs.Attempts.{with_status}
 use Rattle.kb_payment.specs.PaymentSums.{PaymentsValue, attempt_of}
 use Rattle.kb_payment.specs.PaymentEdits.{settled}
-use Rattle.kb_codec.specs.declared.command.Command.{Command}
-use Rattle.kb_codec.specs.declared.command.Command.TheVariants as kinds
+use Rattle.kb_commands.specs.declared.command.Command.{Command}
+use Rattle.kb_commands.specs.declared.command.Command.TheVariants as kinds
 use Rattle.kb_book.specs.Books.{BookValue}
 use Rattle.kb_machine.specs.Judged.{after_judged, is_new}
 use Rattle.kb_machine.specs.Machines.{MachineValue, book_of}

@@ -5,9 +5,9 @@ use Rattle.kb_days.specs.Calendar.{last_day}
 use Rattle.kb_payment.specs.declared.attempt.Attempt.{Attempt}
 use Rattle.kb_payment.specs.Attempts.{is_open}
 use Rattle.kb_payment.specs.PaymentSums.{attempt_of}
-use Rattle.kb_codec.specs.declared.command.Command.{Command}
-use Rattle.kb_codec.specs.declared.command.Command.TheVariants as kinds
-use Rattle.kb_codec.specs.declared.command.Settle.{Settle}
+use Rattle.kb_commands.specs.declared.command.Command.{Command}
+use Rattle.kb_commands.specs.declared.command.Command.TheVariants as kinds
+use Rattle.kb_commands.specs.declared.command.Settle.{Settle}
 use Rattle.kb_book.specs.Books.{BookValue}
 use Rattle.kb_account.specs.Prepares.{opening_book}
 use Rattle.kb_laws.proofs.RepeatedCommands.{bytes_eq-self}

@@ -5,8 +5,8 @@ use Rattle.kb_days.specs.Dates.{march}
 use Rattle.kb_payment.specs.declared.attempt.Attempt.{Attempt}
 use Rattle.kb_payment.specs.declared.attempt.Status.TheVariants.{Success}
 use Rattle.kb_payment.specs.PaymentSums.{attempt_of}
-use Rattle.kb_codec.specs.declared.command.Command.{Command}
-use Rattle.kb_codec.specs.declared.command.Command.TheVariants as kinds
+use Rattle.kb_commands.specs.declared.command.Command.{Command}
+use Rattle.kb_commands.specs.declared.command.Command.TheVariants as kinds
 use Rattle.kb_book.specs.Books.{BookValue}
 use Rattle.kb_book.specs.Edits.{auto_key}
 use Rattle.kb_machine.specs.Machines.{MachineValue, book_of}

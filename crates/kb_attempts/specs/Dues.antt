@@ -2,8 +2,8 @@
 use Rattle.std.specs.Prelude.{ℕ, ◌≡◌, true, false, List, codes, Some, refl}
 use Rattle.kb_days.specs.Dates.{march}
 use Rattle.kb_overdue.specs.OverdueDays.{state_on}
-use Rattle.kb_codec.specs.declared.command.Command.{Command}
-use Rattle.kb_codec.specs.declared.command.Command.TheVariants as kinds
+use Rattle.kb_commands.specs.declared.command.Command.{Command}
+use Rattle.kb_commands.specs.declared.command.Command.TheVariants as kinds
 use Rattle.kb_book.specs.Books.{BookValue}
 use Rattle.kb_book.specs.Steps.{step}
 use Rattle.kb_laws.specs.NextDues.{next_due}

@@ -1,6 +1,6 @@
 -- Books are found under the names of their accounts.
 use Rattle.std.specs.Prelude.{ℕ, ◌≡◌, List, Some}
-use Rattle.kb_codec.specs.declared.command.Command.{Command}
+use Rattle.kb_commands.specs.declared.command.Command.{Command}
 use Rattle.kb_book.specs.Books.{BookValue}
 use Rattle.kb_log.specs.Entries.{History}
 use Rattle.kb_machine.specs.Judged.{after_judged}

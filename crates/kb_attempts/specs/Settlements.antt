@@ -5,8 +5,8 @@ use Rattle.kb_payment.specs.declared.attempt.Attempt.{Attempt}
 use Rattle.kb_payment.specs.declared.attempt.Status.{Status}
 use Rattle.kb_payment.specs.declared.attempt.Status.TheVariants.{Pending, Success}
 use Rattle.kb_payment.specs.Attempts.{is_open, with_status}
-use Rattle.kb_codec.specs.declared.command.Command.TheVariants as kinds
-use Rattle.kb_codec.specs.declared.command.Settle.{Settle}
+use Rattle.kb_commands.specs.declared.command.Command.TheVariants as kinds
+use Rattle.kb_commands.specs.declared.command.Settle.{Settle}
 use Rattle.kb_book.specs.PaymentRows.{same_status}
 use Rattle.kb_book.specs.Steps.{step}
 use Rattle.kb_machine.specs.Judged.{after_judged, is_new}

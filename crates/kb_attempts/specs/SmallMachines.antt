@@ -4,8 +4,8 @@ use Rattle.kb_days.specs.Dates.{march}
 use Rattle.kb_payment.specs.declared.attempt.Attempt.{Attempt}
 use Rattle.kb_payment.specs.declared.attempt.Status.{Status}
 use Rattle.kb_payment.specs.PaymentEdits.{purchase_of}
-use Rattle.kb_codec.specs.declared.command.Command.{Command}
-use Rattle.kb_codec.specs.declared.command.Command.TheVariants as kinds
+use Rattle.kb_commands.specs.declared.command.Command.{Command}
+use Rattle.kb_commands.specs.declared.command.Command.TheVariants as kinds
 use Rattle.kb_book.specs.Books.{BookValue, new_book}
 use Rattle.kb_machine.specs.Texts.{no_texts}
 use Rattle.kb_machine.specs.Machines.{MachineValue}

@@ -5,7 +5,7 @@ use Rattle.kb_days.specs.Calendar.{last_day}
 use Rattle.kb_payment.specs.declared.attempt.Attempt.{Attempt}
 use Rattle.kb_payment.specs.declared.attempt.Status.TheVariants.{Success, PaymentFailure}
 use Rattle.kb_payment.specs.Attempts.{is_open, with_status}
-use Rattle.kb_codec.specs.declared.command.Command.{Command}
+use Rattle.kb_commands.specs.declared.command.Command.{Command}
 use Rattle.kb_book.specs.Steps.{step}
 use Rattle.kb_machine.specs.Judged.{after_judged}
 use Rattle.kb_machine.specs.Machines.{MachineValue, judged}

@@ -16,7 +16,7 @@ use Rattle.kb_lines.specs.declared.stop.Stop.TheVariants as runs
 use Rattle.kb_apply.specs.declared.apply.ApplyStop.{ApplyStop}
 use Rattle.kb_apply.specs.declared.apply.ApplyStop.TheVariants as applied
 use Rattle.kb_apply.specs.Applying.{Applies}
-use Rattle.kb_apply.specs.Continuing.{Continues, ContinueAll}
+use Rattle.kb_lanes.specs.Continuing.{Continues, ContinueAll}
 use Rattle.kb_apply.specs.LaneRuns.{LanesValue, Outside, lanes_machine}
 use Rattle.kb_opening.specs.declared.fault.Unopened.{Unopened}
 use Rattle.kb_opening.specs.declared.fault.Unopened.TheVariants as unopened

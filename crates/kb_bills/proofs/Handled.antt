@@ -2,7 +2,7 @@
 use Rattle.std.proofs.Common.{◌≡◌, ℕ, suc, ◌≤◌, ◌+◌, arith, Bool, List, [], ◌∷◌, Option, None, Some, ap}
 use Rattle.kb_gateway.specs.declared.order.Asked.{Asked}
 use Rattle.kb_gateway.specs.declared.told.Saying.{Saying}
-use Rattle.kb_codec.specs.declared.command.Command.{Command}
+use Rattle.kb_commands.specs.declared.command.Command.{Command}
 use Rattle.kb_reply.specs.declared.step.Step.{Step}
 use Rattle.kb_reply.specs.declared.step.Step.TheVariants as steps
 use Rattle.kb_log.specs.Entries.{Entry}

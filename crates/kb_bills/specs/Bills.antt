@@ -3,8 +3,8 @@ use Rattle.std.specs.Prelude.{ℕ, ◌≡◌, ◌++◌, List, [], ◌∷◌, Opt
 use Rattle.kb_days.specs.DateText.{date_text, civil_text}
 use Rattle.kb_days.specs.Dates.{march}
 use Rattle.kb_days.specs.Calendar.{month_start, month_of, day_of_month, month_after, month_length}
-use Rattle.kb_codec.specs.declared.command.Command.{Command}
-use Rattle.kb_codec.specs.declared.command.Command.TheVariants as kinds
+use Rattle.kb_commands.specs.declared.command.Command.{Command}
+use Rattle.kb_commands.specs.declared.command.Command.TheVariants as kinds
 use Rattle.kb_gateway.specs.declared.order.Asked.{Asked}
 use Rattle.kb_gateway.specs.declared.told.Saying.{Saying}
 use Rattle.kb_machine.specs.Machines.{MachineValue}

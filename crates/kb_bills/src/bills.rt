@@ -11,7 +11,7 @@ ghost use Rattle.kb_bills.specs.Tallies.{Answer, of_step, tally_of};
 use crate::Tally;
 use crate::drains::drain;
 use kb_base::NoMemory;
-use kb_codec::{Bill, Command};
+use kb_commands::{Bill, Command};
 use kb_days::{Day, Name, text};
 use kb_disk::Disk;
 use kb_gateway::Gateway;

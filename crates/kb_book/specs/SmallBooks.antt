@@ -14,10 +14,10 @@ use Rattle.kb_due.specs.DueDays.{due_on, fee_on}
 use Rattle.kb_payment.specs.declared.attempt.Status.TheVariants.{Success}
 use Rattle.kb_tree.specs.Repairs.{new_repairs, new_bills}
 use Rattle.kb_tree.specs.Amounts.{days_cost}
-use Rattle.kb_codec.specs.Members.{name_bytes, period_bytes}
-use Rattle.kb_codec.specs.Members.{optional_bytes, day_bytes, four_bytes}
-use Rattle.kb_codec.specs.declared.command.Command.{Command}
-use Rattle.kb_codec.specs.declared.command.Command.TheVariants as kinds
+use Rattle.kb_members.specs.Members.{name_bytes, period_bytes}
+use Rattle.kb_members.specs.Members.{optional_bytes, day_bytes, four_bytes}
+use Rattle.kb_commands.specs.declared.command.Command.{Command}
+use Rattle.kb_commands.specs.declared.command.Command.TheVariants as kinds
 use Rattle.kb_book.specs.declared.answer.Answer.{Answer}
 use Rattle.kb_book.specs.declared.refusal.Refusal.{Refusal}
 use Rattle.kb_book.specs.declared.refusal.Refusal.TheVariants.{KeyReused}

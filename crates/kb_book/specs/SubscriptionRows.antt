@@ -11,9 +11,9 @@ use Rattle.kb_timeline.specs.TimelineEdits.{max_subscriptions, bundle_named, sub
 use Rattle.kb_blocking.specs.declared.state.Flag.TheVariants.{Change as OfChanges}
 use Rattle.kb_blocking.specs.declared.state.Chain.{Chain}
 use Rattle.kb_blocking.specs.Blocking.{is_on}
-use Rattle.kb_codec.specs.declared.command.Create.{Create}
-use Rattle.kb_codec.specs.declared.command.Change.{Change}
-use Rattle.kb_codec.specs.declared.command.Cancel.{Cancel}
+use Rattle.kb_commands.specs.declared.command.Create.{Create}
+use Rattle.kb_commands.specs.declared.command.Change.{Change}
+use Rattle.kb_commands.specs.declared.command.Cancel.{Cancel}
 use Rattle.kb_due.specs.Facts.{FactsValue, subscription_at, chain_of}
 use Rattle.kb_terms.specs.Wishes.{asked_day, version_of, plan_asked}
 use Rattle.kb_terms.specs.Prices.{refers_to_lacking}

@@ -10,9 +10,9 @@ use Rattle.std.proofs.lemmas.Map.Keys.{IsDistinct-from_apart}
 use Rattle.std.proofs.lemmas.Slice.Eq.{bytes_eq-Decides}
 use Rattle.kb_base.specs.Offenders.{passes_at, repeats_at}
 use Rattle.kb_catalog.specs.declared.version.Version.{Version}
-use Rattle.kb_catalog.specs.declared.version.Product.{Product}
-use Rattle.kb_catalog.specs.declared.version.Plan.{Plan}
-use Rattle.kb_catalog.specs.declared.version.PriceList.{PriceList}
+use Rattle.kb_plans.specs.declared.product.Product.{Product}
+use Rattle.kb_plans.specs.declared.plan.Plan.{Plan}
+use Rattle.kb_plans.specs.declared.price_list.PriceList.{PriceList}
 use Rattle.kb_catalog.specs.declared.rule.Rule.TheVariants.{ProductNames, PlanNames, Lists}
 use Rattle.kb_catalog.specs.VersionRules.{IsValid}
 use Rattle.kb_catalog.specs.ValidVersions.{HasDistinctNames}

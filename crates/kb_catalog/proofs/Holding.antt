@@ -4,8 +4,9 @@ use Rattle.std.proofs.lemmas.Bool.{or_parts, not-false}
 use Rattle.kb_catalog.specs.declared.version.Version.{Version}
 use Rattle.kb_catalog.specs.declared.rule.Rule.TheVariants.{Cases}
 use Rattle.kb_catalog.specs.VersionRules.{rule_list_wrong, IsValid}
-use Rattle.kb_catalog.specs.Cases.{Asks, ends_open, decides_wrongly, EndOpen, asks_of_change, asks_of_plan}
-use Rattle.kb_catalog.specs.Cases.{asks_of_create}
+use Rattle.kb_plans.specs.Cases.{Asks, ends_open, EndOpen, asks_of_change, asks_of_plan}
+use Rattle.kb_catalog.specs.Cases.{decides_wrongly}
+use Rattle.kb_plans.specs.Cases.{asks_of_create}
 use Rattle.kb_catalog.proofs.RulesHold.{valid-nowhere_broken}
 
 -- a rule list that doesn't decide wrongly ends with a case without condition

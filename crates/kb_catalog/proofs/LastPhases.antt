@@ -5,10 +5,10 @@ use Rattle.std.proofs.lemmas.Option.{slice_get-get_or}
 use Rattle.kb_days.specs.declared.span.Span.{Span}
 use Rattle.kb_days.specs.declared.span.Span.TheVariants.{Days, Weeks, Months, Years, Unlimited}
 use Rattle.kb_catalog.specs.declared.version.Version.{Version}
-use Rattle.kb_catalog.specs.declared.version.Plan.{Plan}
-use Rattle.kb_catalog.specs.declared.version.Phase.{Phase}
+use Rattle.kb_plans.specs.declared.plan.Plan.{Plan}
+use Rattle.kb_plans.specs.declared.phase.Phase.{Phase}
 use Rattle.kb_catalog.specs.declared.rule.Rule.TheVariants.{LastPhase}
-use Rattle.kb_catalog.specs.Plans.{is_unlimited, ends_unlimited}
+use Rattle.kb_plans.specs.Plans.{is_unlimited, ends_unlimited}
 use Rattle.kb_catalog.specs.VersionRules.{IsValid}
 use Rattle.kb_catalog.specs.ValidVersions.{EndsUnlimited}
 use Rattle.kb_catalog.proofs.RulesHold.{valid-nowhere_broken}

@@ -12,13 +12,15 @@ use Rattle.kb_base.specs.Offenders.{passes_at}
 use Rattle.kb_days.specs.declared.period.Period.{Period}
 use Rattle.kb_days.specs.Periods.{period_word}
 use Rattle.kb_catalog.specs.declared.version.Version.{Version}
-use Rattle.kb_catalog.specs.declared.version.Plan.{Plan}
-use Rattle.kb_catalog.specs.declared.version.PriceList.{PriceList}
+use Rattle.kb_plans.specs.declared.plan.Plan.{Plan}
+use Rattle.kb_plans.specs.declared.price_list.PriceList.{PriceList}
 use Rattle.kb_catalog.specs.declared.rule.Rule.TheVariants.{Lists}
-use Rattle.kb_catalog.specs.Products.{has_name}
-use Rattle.kb_catalog.specs.Plans.{plan_period}
-use Rattle.kb_catalog.specs.Lists.{agree, agrees_with_one, has_agreeing, sells_wrongly}
-use Rattle.kb_catalog.specs.LookUp.{is_asked, names_sold, both_places, plan_at}
+use Rattle.kb_plans.specs.Products.{has_name}
+use Rattle.kb_plans.specs.Plans.{plan_period}
+use Rattle.kb_plans.specs.Plans.{agree}
+use Rattle.kb_catalog.specs.Lists.{agrees_with_one, has_agreeing, sells_wrongly}
+use Rattle.kb_plans.specs.Plans.{is_asked}
+use Rattle.kb_catalog.specs.LookUp.{names_sold, both_places, plan_at}
 use Rattle.kb_catalog.specs.VersionRules.{IsValid}
 use Rattle.kb_catalog.specs.ValidVersions.{IsSold, IsOnlyPlan}
 use Rattle.kb_catalog.proofs.RulesHold.{valid-nowhere_broken}

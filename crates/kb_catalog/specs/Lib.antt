@@ -1,6 +1,4 @@
-pub mod Words
 pub mod Products
-pub mod Plans
 pub mod Lists
 pub mod Cases
 pub mod VersionRules
@@ -9,5 +7,4 @@ pub mod SmallVersion
 pub mod SmallLookUps
 pub mod LookUp
 pub mod Catalogs
-pub mod Alignments
 pub mod ValidVersions

@@ -1,16 +1,15 @@
 -- The price lists of a version, and the plans that they name.
 use Rattle.std.specs.Prelude.{ℕ, Bool, false, not, ◌&&◌, ◌||◌, bytes_eq, List, [], ◌∷◌, codes}
 use Rattle.std.specs.List.{list_any}
+use Rattle.kb_plans.specs.declared.plan.Plan.{Plan}
+use Rattle.kb_plans.specs.declared.price_list.PriceList.{PriceList}
+use Rattle.kb_plans.specs.Products.{has_name}
+use Rattle.kb_plans.specs.Plans.{agree}
 use Rattle.kb_catalog.specs.declared.version.Version.{Version}
-use Rattle.kb_catalog.specs.declared.version.Plan.{Plan}
-use Rattle.kb_catalog.specs.declared.version.PriceList.{PriceList}
-use Rattle.kb_catalog.specs.Words.{same_period}
-use Rattle.kb_catalog.specs.Products.{has_name}
-use Rattle.kb_catalog.specs.Plans.{has_plan, plan_period}
 
--- two plans agree in product and billing period
-abbrev pub agree : Plan → Plan → Bool
-agree plan other = bytes_eq plan.product other.product && same_period (plan_period plan) (plan_period other)
+-- a plan of this name is there
+abbrev pub has_plan : Version → List ℕ → Bool
+has_plan version name = list_any (λ (plan : Plan). bytes_eq name plan.name) version.plans
 
 -- a plan agrees with one of some names
 abbrev pub agrees_with_one : Version → Plan → List (List ℕ) → Bool

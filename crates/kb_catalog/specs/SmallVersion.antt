@@ -4,17 +4,17 @@ use Rattle.kb_days.specs.Dates.{january_2020}
 use Rattle.kb_days.specs.declared.span.Span.TheVariants.{Days, Unlimited}
 use Rattle.kb_days.specs.declared.period.Period.TheVariants.{Monthly}
 use Rattle.kb_catalog.specs.declared.version.Version.{Version}
-use Rattle.kb_catalog.specs.declared.version.Product.{Product}
-use Rattle.kb_catalog.specs.declared.version.Plan.{Plan}
-use Rattle.kb_catalog.specs.declared.version.Phase.{Phase}
-use Rattle.kb_catalog.specs.declared.version.Rules.{Rules}
-use Rattle.kb_catalog.specs.declared.version.PlanCondition.{PlanCondition}
-use Rattle.kb_catalog.specs.declared.words.Category.TheVariants.{Base, AddOn}
-use Rattle.kb_catalog.specs.declared.words.PhaseType.TheVariants.{Trial, Evergreen}
-use Rattle.kb_catalog.specs.declared.words.Policy.TheVariants.{Immediate}
-use Rattle.kb_catalog.specs.declared.words.Align.TheVariants.{StartOfSubscription}
-use Rattle.kb_catalog.specs.declared.words.CreateAlign.TheVariants.{StartOfSubscription as FromSubscription}
-use Rattle.kb_catalog.specs.declared.words.BillingAlign.TheVariants.{Account}
+use Rattle.kb_plans.specs.declared.product.Product.{Product}
+use Rattle.kb_plans.specs.declared.plan.Plan.{Plan}
+use Rattle.kb_plans.specs.declared.phase.Phase.{Phase}
+use Rattle.kb_plans.specs.declared.rules.Rules.{Rules}
+use Rattle.kb_plans.specs.SmallCases.{no_condition}
+use Rattle.kb_plans.specs.declared.words.Category.TheVariants.{Base, AddOn}
+use Rattle.kb_plans.specs.declared.words.PhaseType.TheVariants.{Trial, Evergreen}
+use Rattle.kb_plans.specs.declared.words.Policy.TheVariants.{Immediate}
+use Rattle.kb_plans.specs.declared.words.Align.TheVariants.{StartOfSubscription}
+use Rattle.kb_plans.specs.declared.words.CreateAlign.TheVariants.{StartOfSubscription as FromSubscription}
+use Rattle.kb_plans.specs.declared.words.BillingAlign.TheVariants.{Account}
 use Rattle.kb_catalog.specs.declared.rule.Rule.TheVariants.{Currencies, ProductNames, AddOns, AddOnsOnce}
 use Rattle.kb_catalog.specs.declared.rule.Rule.TheVariants.{PlanNames, PlanProducts, LastPhase, PhaseKinds}
 use Rattle.kb_catalog.specs.declared.rule.Rule.TheVariants.{PhasePeriods, Prices, Lists, Cases}
@@ -41,10 +41,6 @@ monthly = record {
 -- a plan of the base product
 abbrev pub gold_monthly : Plan
 gold_monthly = record { name = codes "gold-monthly"; product = codes "Gold"; phases = monthly ∷ [] }
-
--- nothing is asked of a plan
-abbrev pub no_condition : PlanCondition
-no_condition = record { product = None; category = None; period = None; list = None }
 
 -- one case without a condition in each rule list
 abbrev open_rules : Rules

@@ -6,12 +6,13 @@ use Rattle.kb_days.specs.declared.period.Period.{Period}
 use Rattle.kb_days.specs.declared.period.Period.TheVariants.{Monthly}
 use Rattle.kb_days.specs.declared.span.Span.TheVariants.{Days, Unlimited}
 use Rattle.kb_catalog.specs.declared.version.Version.{Version}
-use Rattle.kb_catalog.specs.declared.version.Product.{Product}
-use Rattle.kb_catalog.specs.declared.version.Plan.{Plan}
-use Rattle.kb_catalog.specs.declared.version.Phase.{Phase}
-use Rattle.kb_catalog.specs.declared.version.PriceList.{PriceList}
-use Rattle.kb_catalog.specs.Plans.{is_unlimited}
-use Rattle.kb_catalog.specs.LookUp.{is_asked, names_sold}
+use Rattle.kb_plans.specs.declared.product.Product.{Product}
+use Rattle.kb_plans.specs.declared.plan.Plan.{Plan}
+use Rattle.kb_plans.specs.declared.phase.Phase.{Phase}
+use Rattle.kb_plans.specs.declared.price_list.PriceList.{PriceList}
+use Rattle.kb_plans.specs.Plans.{is_unlimited}
+use Rattle.kb_plans.specs.Plans.{is_asked}
+use Rattle.kb_catalog.specs.LookUp.{names_sold}
 use Rattle.kb_catalog.specs.SmallVersion.{small, monthly, gold_monthly}
 
 -- no two products have one name, no two plans, and no two price lists

@@ -3,19 +3,21 @@ use Rattle.std.specs.Prelude.{ℕ, ◌+◌, ◌≡◌, Bool, not, ◌&&◌, ◌|
 use Rattle.std.specs.Prelude.{Option, Some, None, max, ◌<◌, ◌^◌, All}
 use Rattle.std.specs.List.{list_any}
 use Rattle.kb_catalog.specs.declared.version.Version.{Version}
-use Rattle.kb_catalog.specs.declared.version.Product.{Product}
-use Rattle.kb_catalog.specs.declared.version.Plan.{Plan}
-use Rattle.kb_catalog.specs.declared.version.PriceList.{PriceList}
+use Rattle.kb_plans.specs.declared.product.Product.{Product}
+use Rattle.kb_plans.specs.declared.plan.Plan.{Plan}
+use Rattle.kb_plans.specs.declared.price_list.PriceList.{PriceList}
 use Rattle.kb_catalog.specs.declared.rule.Rule.{Rule}
 use Rattle.kb_catalog.specs.declared.rule.Rule.TheVariants.{Currencies, ProductNames, AddOns, AddOnsOnce}
 use Rattle.kb_catalog.specs.declared.rule.Rule.TheVariants.{PlanNames, PlanProducts, LastPhase, PhaseKinds}
 use Rattle.kb_catalog.specs.declared.rule.Rule.TheVariants.{PhasePeriods, Prices, Lists, Cases}
 use Rattle.kb_catalog.specs.declared.rule.CatalogFault.{CatalogFault}
 use Rattle.kb_base.specs.Offenders.{first_place, passes_at, repeats_at}
-use Rattle.kb_catalog.specs.Products.{is_empty, has_product, lists_wrongly, lists_twice}
-use Rattle.kb_catalog.specs.Plans.{ends_unlimited, kinds_fit, bills_wrongly, phase_prices_wrongly}
+use Rattle.kb_plans.specs.Products.{is_empty, lists_twice}
+use Rattle.kb_catalog.specs.Products.{has_product, lists_wrongly}
+use Rattle.kb_plans.specs.Plans.{ends_unlimited, kinds_fit, bills_wrongly, phase_prices_wrongly}
 use Rattle.kb_catalog.specs.Lists.{sells_wrongly, has_list, default_list}
-use Rattle.kb_catalog.specs.Cases.{decides_wrongly, asks_of_change, asks_of_plan, asks_of_create}
+use Rattle.kb_catalog.specs.Cases.{decides_wrongly}
+use Rattle.kb_plans.specs.Cases.{asks_of_change, asks_of_plan, asks_of_create}
 
 -- whether the rule list at a place is wrong: change policy, change alignment, cancel policy, create
 -- alignment, billing alignment

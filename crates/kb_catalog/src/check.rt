@@ -9,7 +9,6 @@ mod plans;
 mod products;
 
 use crate::{CatalogFault, Rule, Version};
-pub(crate) use products::has_name;
 
 /// The first rule that a version breaks, and that rule's first offender.
 pub(crate) fn fault_of(version: &Version) -> Option<CatalogFault>

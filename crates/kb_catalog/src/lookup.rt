@@ -1,19 +1,17 @@
 //! What billing asks of a valid version.
 ghost use Rattle.std.specs.Prelude.{◌≡◌, ◌<◌, ◌^◌, bytes_eq, length, Some, IfSome, option_map};
-ghost use Rattle.kb_catalog.specs.declared.version.PriceList.{PriceList};
-ghost use Rattle.kb_catalog.specs.Plans.{plan_period};
 ghost use Rattle.std.specs.List.{position_from};
-ghost use Rattle.kb_catalog.specs.LookUp.{plan_at, names_sold, is_asked, first_match, fits_change, fits_plan};
-ghost use Rattle.kb_catalog.specs.LookUp.{fits_create};
-ghost use Rattle.kb_catalog.specs.Cases.{EndOpen};
+ghost use Rattle.kb_plans.specs.declared.price_list.PriceList.{PriceList};
+ghost use Rattle.kb_plans.specs.Plans.{is_asked};
+ghost use Rattle.kb_plans.specs.Cases.{EndOpen, first_match, fits_change, fits_plan, fits_create};
+ghost use Rattle.kb_catalog.specs.LookUp.{plan_at, names_sold};
 ghost use Rattle.kb_catalog.specs.ValidVersions.{IsOnlyPlan};
 
-use crate::case::{decide, same_period};
-use crate::check::has_name;
-use crate::{
-    Align, BillingAlign, ChangeAsk, CreateAlign, Plan, PlanAsk, Policy, PriceList, Rules, Valid,
-};
+use crate::Valid;
 use kb_days::{Name, Period};
+use kb_plans::{
+    Align, BillingAlign, ChangeAsk, CreateAlign, Plan, PlanAsk, Policy, PriceList, Rules, decide,
+};
 
 impl Valid {
     /// The places of the named list and of the plan that it sells for a product and a billing period, from 0,
@@ -85,25 +83,6 @@ impl Valid {
         ensures ends_open { EndOpen result.now }
     {
         &self.version().rules
-    }
-}
-
-impl Plan {
-    /// The plan's billing period: that of its last phase.
-    pub fn period(&self) -> Period
-        ensures { result ≡ plan_period self.now }
-    {
-        match self.phases.as_slice().split_last() {
-            None => Period::NoBillingPeriod,
-            Some((last, _)) => last.period,
-        }
-    }
-
-    /// Whether the plan has this product and billing period, and is among these names.
-    fn is_asked(&self, product: Name, period: Period, names: &[Name]) -> bool
-        ensures { result ≡ is_asked product period names.now self.now }
-    {
-        product == self.product && same_period(period, self.period()) && has_name(names, &self.name)
     }
 }
 

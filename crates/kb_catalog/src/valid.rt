@@ -1,12 +1,13 @@
 //! Versions whose rules hold.
 ghost use Rattle.std.specs.Prelude.{◌≡◌, ◌<◌, ◌^◌, ◌↔◌, IsTrue, nat_lt, length, Err, Some, IsOk, IfOk, All};
-ghost use Rattle.kb_catalog.specs.declared.version.Plan.{Plan};
+ghost use Rattle.kb_plans.specs.declared.plan.Plan.{Plan};
 ghost use Rattle.kb_catalog.specs.declared.rule.CatalogFault.{CatalogFault};
 ghost use Rattle.kb_catalog.specs.VersionRules.{fault_of, IsValid, HasCounts};
 ghost use Rattle.kb_catalog.specs.ValidVersions.{HasDistinctNames, EndsUnlimited};
 
 use crate::check::fault_of;
-use crate::{CatalogFault, Plan, Version};
+use crate::{CatalogFault, Version};
+use kb_plans::Plan;
 use std::marker::Model;
 
 /// A version whose twelve rules hold.

@@ -10,8 +10,8 @@ use Rattle.kb_overdue.specs.declared.config.ConfigFault.{ConfigFault}
 use Rattle.kb_overdue.specs.ConfigRules.{fault_of as config_fault_of, rule_number as config_rule_number}
 use Rattle.kb_catalog_text.specs.declared.fault.TextFault.{TextFault}
 use Rattle.kb_catalog_text.specs.declared.fault.TextFault.TheVariants.{NotToml, TooLong, Rule}
-use Rattle.kb_catalog_text.specs.declared.key_fault.KeyFault.TheVariants.{Missing, WrongKind, Unknown, Memory}
-use Rattle.kb_catalog_text.specs.Reads.{Read}
+use Rattle.kb_tables.specs.declared.key_fault.KeyFault.TheVariants.{Missing, WrongKind, Unknown, Memory}
+use Rattle.kb_tables.specs.Reads.{Read}
 use Rattle.kb_catalog_text.specs.Texts.{max_bytes, document_of, judged, text_read, version_judged}
 use Rattle.kb_catalog_text.specs.Texts.{states_judged, catalog_read, overdue_read}
 

@@ -2,10 +2,10 @@
 use Rattle.std.proofs.Common.{◌≡◌, ℕ, Bool, true, false, List, [], ◌∷◌, ◌++◌, Option, Some, None, Ok, Err}
 use Rattle.std.proofs.Common.{append_assoc, refl, ap}
 use Rattle.toml.specs.Data.{Data, Members, member}
-use Rattle.kb_catalog.specs.declared.version.Price.{Price}
-use Rattle.kb_catalog_text.specs.declared.key_fault.KeyFault.{KeyFault}
-use Rattle.kb_catalog_text.specs.Kinds.{amount_in}
-use Rattle.kb_catalog_text.specs.Reads.{Read, and_then, first_failing, keys_read, read_as}
+use Rattle.kb_plans.specs.declared.phase.Price.{Price}
+use Rattle.kb_tables.specs.declared.key_fault.KeyFault.{KeyFault}
+use Rattle.kb_tables.specs.Kinds.{amount_in}
+use Rattle.kb_tables.specs.Reads.{Read, and_then, first_failing, keys_read, read_as}
 use Rattle.kb_catalog_text.specs.CatalogText.{amounts_in}
 
 -- where all keys are known, none fails

@@ -7,26 +7,26 @@ use Rattle.kb_days.specs.declared.span.Span.{Span}
 use Rattle.kb_days.specs.declared.span.Span.TheVariants as span
 use Rattle.kb_money.specs.Currency.{is_currency}
 use Rattle.kb_catalog.specs.declared.version.Version.{Version}
-use Rattle.kb_catalog.specs.declared.version.Product.{Product}
-use Rattle.kb_catalog.specs.declared.version.Plan.{Plan}
-use Rattle.kb_catalog.specs.declared.version.Phase.{Phase}
-use Rattle.kb_catalog.specs.declared.version.Price.{Price}
-use Rattle.kb_catalog.specs.declared.version.PriceList.{PriceList}
-use Rattle.kb_catalog.specs.declared.version.Rules.{Rules}
-use Rattle.kb_catalog.specs.declared.version.PlanCondition.{PlanCondition}
-use Rattle.kb_catalog.specs.declared.version.ChangeCase.{ChangeCase}
-use Rattle.kb_catalog.specs.declared.version.PlanCase.{PlanCase}
-use Rattle.kb_catalog.specs.declared.version.CreateCase.{CreateCase}
-use Rattle.kb_catalog.specs.declared.words.Policy.{Policy}
-use Rattle.kb_catalog.specs.declared.words.Align.{Align}
-use Rattle.kb_catalog.specs.declared.words.BillingAlign.{BillingAlign}
-use Rattle.kb_catalog_text.specs.declared.span_unit.SpanUnit.{SpanUnit}
-use Rattle.kb_catalog_text.specs.declared.span_unit.SpanUnit.TheVariants as unit
-use Rattle.kb_catalog_text.specs.Reads.{Read, and_then, keys_read, is_among, read_as, required, optional}
-use Rattle.kb_catalog_text.specs.Reads.{read_or, read_table, read_array}
-use Rattle.kb_catalog_text.specs.Words.{period_words, category_words, phase_words, unit_words, policy_words}
-use Rattle.kb_catalog_text.specs.Words.{create_align_words, align_words, billing_align_words}
-use Rattle.kb_catalog_text.specs.Kinds.{name_in, currency_in, day_in, word_in, count_in, amount_in, format_in}
+use Rattle.kb_plans.specs.declared.product.Product.{Product}
+use Rattle.kb_plans.specs.declared.plan.Plan.{Plan}
+use Rattle.kb_plans.specs.declared.phase.Phase.{Phase}
+use Rattle.kb_plans.specs.declared.phase.Price.{Price}
+use Rattle.kb_plans.specs.declared.price_list.PriceList.{PriceList}
+use Rattle.kb_plans.specs.declared.rules.Rules.{Rules}
+use Rattle.kb_plans.specs.declared.rules.PlanCondition.{PlanCondition}
+use Rattle.kb_plans.specs.declared.rules.ChangeCase.{ChangeCase}
+use Rattle.kb_plans.specs.declared.rules.PlanCase.{PlanCase}
+use Rattle.kb_plans.specs.declared.rules.CreateCase.{CreateCase}
+use Rattle.kb_plans.specs.declared.words.Policy.{Policy}
+use Rattle.kb_plans.specs.declared.words.Align.{Align}
+use Rattle.kb_plans.specs.declared.words.BillingAlign.{BillingAlign}
+use Rattle.kb_tables.specs.declared.span_unit.SpanUnit.{SpanUnit}
+use Rattle.kb_tables.specs.declared.span_unit.SpanUnit.TheVariants as unit
+use Rattle.kb_tables.specs.Reads.{Read, and_then, keys_read, is_among, read_as, required, optional}
+use Rattle.kb_tables.specs.Reads.{read_or, read_table, read_array}
+use Rattle.kb_tables.specs.Words.{period_words, category_words, phase_words, unit_words, policy_words}
+use Rattle.kb_tables.specs.Words.{create_align_words, align_words, billing_align_words}
+use Rattle.kb_tables.specs.Kinds.{name_in, currency_in, day_in, word_in, count_in, amount_in, format_in}
 
 -- a product
 abbrev pub product_keys : List (List ℕ)

@@ -2,9 +2,9 @@
 use Rattle.std.specs.Prelude.{ℕ, List, [], ◌∷◌, codes, Ok}
 use Rattle.toml.specs.Data.{Members, as_bool}
 use Rattle.kb_overdue.specs.declared.state.OverdueState.{OverdueState}
-use Rattle.kb_catalog_text.specs.Reads.{Read, and_then, keys_read, is_among, read_as, required, optional}
-use Rattle.kb_catalog_text.specs.Reads.{read_or, read_table, read_array}
-use Rattle.kb_catalog_text.specs.Kinds.{name_in, threshold_in}
+use Rattle.kb_tables.specs.Reads.{Read, and_then, keys_read, is_among, read_as, required, optional}
+use Rattle.kb_tables.specs.Reads.{read_or, read_table, read_array}
+use Rattle.kb_tables.specs.Kinds.{name_in, threshold_in}
 
 -- a state
 abbrev pub state_keys : List (List ℕ)

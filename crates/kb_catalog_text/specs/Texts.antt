@@ -13,9 +13,9 @@ use Rattle.kb_overdue.specs.declared.config.ConfigFault.{ConfigFault}
 use Rattle.kb_overdue.specs.ConfigRules.{fault_of as config_fault_of, rule_number as config_rule_number}
 use Rattle.kb_catalog_text.specs.declared.fault.TextFault.{TextFault}
 use Rattle.kb_catalog_text.specs.declared.fault.TextFault.TheVariants as text
-use Rattle.kb_catalog_text.specs.declared.key_fault.KeyFault.{KeyFault}
-use Rattle.kb_catalog_text.specs.declared.key_fault.KeyFault.TheVariants as at
-use Rattle.kb_catalog_text.specs.Reads.{Read}
+use Rattle.kb_tables.specs.declared.key_fault.KeyFault.{KeyFault}
+use Rattle.kb_tables.specs.declared.key_fault.KeyFault.TheVariants as at
+use Rattle.kb_tables.specs.Reads.{Read}
 use Rattle.kb_catalog_text.specs.CatalogText.{version_in}
 use Rattle.kb_catalog_text.specs.OverdueText.{states_in}
 

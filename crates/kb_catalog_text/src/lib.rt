@@ -5,16 +5,10 @@
 #![tactic(auto)]
 
 mod catalog;
+mod entries;
 mod fault;
-mod format;
-mod from_value;
-mod key_fault;
-mod keys;
-mod kinds;
 mod overdue;
 mod reading;
-mod span_unit;
-mod words;
 
 pub use fault::TextFault;
 pub use reading::{Checked, CheckedOverdue, MAX_BYTES, read, read_overdue};

@@ -1,15 +1,14 @@
 //! The tables of an overdue text.
 ghost use Rattle.toml.specs.View.{table_view};
-ghost use Rattle.kb_catalog_text.specs.Reads.{IsRead, read_table};
+ghost use Rattle.kb_tables.specs.Reads.{IsRead};
 ghost use Rattle.kb_catalog_text.specs.OverdueText.{state_in, states_in};
 
-use crate::from_value::{FromValue, list_or_empty, optional, required, table_of};
-use crate::key_fault::KeyFault;
-use crate::keys::{Among, known_keys};
+use crate::entries::{Entry, entries_or_empty};
 use kb_base::Seq;
 use kb_overdue::OverdueState;
+use kb_tables::{Among, KeyFault, known_keys, optional, required};
 use std::alloc::Global;
-use toml::{Table, Value};
+use toml::Table;
 
 /// The overdue states that a document says.
 pub(crate) fn read_states(alloc: Global, table: &Table) -> Result<Seq<OverdueState>, KeyFault>
@@ -17,15 +16,14 @@ pub(crate) fn read_states(alloc: Global, table: &Table) -> Result<Seq<OverdueSta
 {
     let keys = Among { keys: &["state"] };
     known_keys(alloc, table, &keys)?;
-    list_or_empty(alloc, table, "state")
+    entries_or_empty(alloc, table, "state")
 }
 
-impl FromValue for OverdueState {
-    ghost reads = { read_table state_in };
+impl Entry for OverdueState {
+    ghost says = { state_in };
 
-    #[tactic(auto, using(crate::proofs::ReadSteps::inner))]
-    fn read(alloc: Global, key: &str, value: &Value) -> Result<OverdueState, KeyFault> {
-        read_state(alloc, table_of(alloc, key, value)?)
+    fn entry(alloc: Global, table: &Table) -> Result<OverdueState, KeyFault> {
+        read_state(alloc, table)
     }
 }
 

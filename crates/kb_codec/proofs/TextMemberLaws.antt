@@ -5,14 +5,15 @@ use Rattle.kb_catalog.specs.declared.version.Version.{Version}
 use Rattle.kb_overdue.specs.declared.state.OverdueState.{OverdueState}
 use Rattle.kb_catalog_text.specs.declared.fault.TextFault.{TextFault}
 use Rattle.kb_catalog_text.specs.Texts.{CatalogText, OverdueText, catalog_read, overdue_read}
-use Rattle.kb_codec.specs.Members.{four_bytes, text_bytes}
-use Rattle.kb_codec.specs.Commands.{IsCatalogText, IsOverdueText}
-use Rattle.kb_codec.specs.Private.Reading.{bytes_in, four_in, text_in, catalog_in, catalog_of, with_version}
-use Rattle.kb_codec.specs.Private.Reading.{overdue_in, overdue_of, with_states}
+use Rattle.kb_members.specs.Members.{four_bytes, text_bytes}
+use Rattle.kb_commands.specs.Commands.{IsCatalogText, IsOverdueText}
+use Rattle.kb_members.specs.Reading.{bytes_in, four_in, text_in}
+use Rattle.kb_codec.specs.Private.TextReading.{catalog_in, catalog_of, with_version}
+use Rattle.kb_codec.specs.Private.TextReading.{overdue_in, overdue_of, with_states}
 use Rattle.kb_codec.specs.Private.Parts.{catalog, overdue}
-use Rattle.kb_codec.proofs.Readers.{IsBytes, IsBytes-drop, some_is, made_some, chained_some}
-use Rattle.kb_codec.proofs.Readers.{made_again, chained_again, bytes_some, bytes_again}
-use Rattle.kb_codec.proofs.MemberLaws.{WasRead, IsExact, four_again, four_some}
+use Rattle.kb_members.proofs.Readers.{IsBytes, IsBytes-drop, some_is, made_some, chained_some}
+use Rattle.kb_members.proofs.Readers.{made_again, chained_again, bytes_some, bytes_again}
+use Rattle.kb_members.proofs.MemberLaws.{WasRead, IsExact, four_again, four_some}
 use Rattle.kb_codec.proofs.ShortTexts.{catalog_short, overdue_short}
 
 -- a text, behind its length

@@ -1,3 +1,3 @@
-pub mod Reading
+pub mod TextReading
 pub mod Parts
 pub mod SmallReadings

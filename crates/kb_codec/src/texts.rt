@@ -1,16 +1,17 @@
 //! The kinds of commands with a text, read from what is left of some bytes.
 ghost use Rattle.std.specs.Prelude.{◌≡◌, IfOk};
-ghost use Rattle.kb_codec.specs.Private.Reading.{Reads, into, catalog_of, overdue_of};
+ghost use Rattle.kb_members.specs.Reading.{Reads, into};
+ghost use Rattle.kb_codec.specs.Private.TextReading.{catalog_of, overdue_of};
 ghost use Rattle.kb_codec.specs.Private.Parts.{catalog_text, catalog_text_of, overdue_rules};
 ghost use Rattle.kb_codec.specs.Private.Parts.{overdue_rules_of};
 
-use crate::rest::Rest;
-use crate::{Catalog, Command, OverdueRules};
 use kb_base::NoMemory;
 use kb_catalog_text::{Checked, CheckedOverdue, TextFault, read, read_overdue};
+use kb_commands::{Catalog, Command, OverdueRules};
+use kb_members::Rest;
 use std::alloc::Global;
 
-#[tactic(auto, unfolding(crate::specs::Private::Reading::catalog_in))]
+#[tactic(auto, unfolding(crate::specs::Private::TextReading::catalog_in))]
 pub(crate) fn read_catalog_text(
     alloc: Global,
     rest: &mut Rest<'_>,
@@ -29,7 +30,7 @@ pub(crate) fn read_catalog_text(
     }
 }
 
-#[tactic(auto, unfolding(crate::specs::Private::Reading::overdue_in))]
+#[tactic(auto, unfolding(crate::specs::Private::TextReading::overdue_in))]
 pub(crate) fn read_overdue_rules(
     alloc: Global,
     rest: &mut Rest<'_>,

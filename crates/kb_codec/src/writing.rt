@@ -1,17 +1,17 @@
 //! The kinds of commands, written at the end of some bytes: the kind, and then its members.
 ghost use Rattle.std.specs.Prelude.{◌≡◌, ◌++◌, OnOk};
 ghost use Rattle.kb_codec.specs.Commands.{spelling};
-ghost use Rattle.kb_codec.specs.declared.command.Command.TheVariants as kinds;
+ghost use Rattle.kb_commands.specs.declared.command.Command.TheVariants as kinds;
 
-use crate::member::{
-    put_amount, put_bcd, put_currency, put_flags, put_invoice, put_name, put_optional_amount,
-    put_optional_day, put_period, put_scope, put_status, put_text, put_truth,
-};
-use crate::{
+use kb_base::NoMemory;
+use kb_commands::{
     Auto, Autopay, Bill, Block, Cancel, Catalog, Change, Charge, Chargeback, Command, Create,
     Credit, OpenAccount, Overdue, OverdueRules, Pause, Pay, Refund, Resume, Settle, Uncancel,
 };
-use kb_base::NoMemory;
+use kb_members::{
+    put_amount, put_bcd, put_currency, put_flags, put_invoice, put_name, put_optional_amount,
+    put_optional_day, put_period, put_scope, put_status, put_text, put_truth,
+};
 
 /// A command of any kind.
 pub(crate) fn put_command(out: &mut Vec<u8>, command: &Command) -> Result<(), NoMemory>

@@ -10,11 +10,11 @@ use Rattle.kb_credit.specs.declared.line.Line.{Line}
 use Rattle.kb_credit.specs.InvoiceRows.{InvoicesValue}
 use Rattle.kb_payment.specs.PaymentSums.{PaymentsValue, has_automatic_since, open_purchases}
 use Rattle.kb_payment.specs.PaymentEdits.{amount_of}
-use Rattle.kb_codec.specs.declared.command.Command.{Command}
-use Rattle.kb_codec.specs.declared.command.Command.TheVariants as kinds
-use Rattle.kb_codec.specs.declared.command.Auto.{Auto}
-use Rattle.kb_codec.specs.declared.command.Settle.{Settle}
-use Rattle.kb_codec.specs.declared.command.Overdue.{Overdue}
+use Rattle.kb_commands.specs.declared.command.Command.{Command}
+use Rattle.kb_commands.specs.declared.command.Command.TheVariants as kinds
+use Rattle.kb_commands.specs.declared.command.Auto.{Auto}
+use Rattle.kb_commands.specs.declared.command.Settle.{Settle}
+use Rattle.kb_commands.specs.declared.command.Overdue.{Overdue}
 use Rattle.kb_book.specs.Worlds.{WorldValue}
 use Rattle.kb_book.specs.Issues.{Issue}
 use Rattle.kb_book.specs.Books.{BookValue}

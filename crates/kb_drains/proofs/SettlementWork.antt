@@ -1,6 +1,6 @@
 -- A settlement adds no work.
 use Rattle.std.proofs.Common.{◌≤◌, sym, arith, true≢false}
-use Rattle.kb_codec.specs.declared.command.Command.TheVariants as kinds
+use Rattle.kb_commands.specs.declared.command.Command.TheVariants as kinds
 use Rattle.kb_machine.specs.Judged.{after_judged}
 use Rattle.kb_attempts.proofs.JudgedCases.{judged-cases, accepted_on}
 use Rattle.kb_drains.specs.OwnWork.{all_work}

@@ -1,7 +1,7 @@
 -- What an account asks for by itself takes as much work off as it leaves to do.
 use Rattle.std.proofs.Common.{◌≡◌, ℕ, ◌+◌, ◌≤◌, Bool, true, false, List, Some, sym, subst, ◌∙◌, true≢false}
 use Rattle.kb_days.specs.Calendar.{first_day, charged_days}
-use Rattle.kb_codec.specs.declared.command.Command.{Command}
+use Rattle.kb_commands.specs.declared.command.Command.{Command}
 use Rattle.kb_book.specs.Books.{BookValue}
 use Rattle.kb_book.specs.Steps.{accepted_over}
 use Rattle.kb_machine.specs.Judged.{after_judged, is_new}

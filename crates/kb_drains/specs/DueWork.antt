@@ -2,7 +2,7 @@
 -- leaves to do.
 use Rattle.std.specs.Prelude.{ℕ, ◌+◌, ◌≡◌, ◌≤◌, Bool, true, List, Some}
 use Rattle.kb_days.specs.Calendar.{last_day}
-use Rattle.kb_codec.specs.declared.command.Command.{Command}
+use Rattle.kb_commands.specs.declared.command.Command.{Command}
 use Rattle.kb_book.specs.Books.{BookValue}
 use Rattle.kb_laws.specs.NextDues.{next_due}
 use Rattle.kb_machine.specs.Machines.{MachineValue, book_of}

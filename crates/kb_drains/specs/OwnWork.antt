@@ -8,8 +8,8 @@ use Rattle.kb_days.specs.Calendar.{first_day, charged_days}
 use Rattle.kb_days.specs.Dates.{march}
 use Rattle.kb_credit.specs.declared.line.Line.{Line}
 use Rattle.kb_payment.specs.PaymentSums.{PaymentsValue, has_automatic_since}
-use Rattle.kb_codec.specs.declared.command.Command.{Command}
-use Rattle.kb_codec.specs.declared.command.Command.TheVariants as kinds
+use Rattle.kb_commands.specs.declared.command.Command.{Command}
+use Rattle.kb_commands.specs.declared.command.Command.TheVariants as kinds
 use Rattle.kb_book.specs.Worlds.{WorldValue}
 use Rattle.kb_book.specs.Books.{BookValue}
 use Rattle.kb_book.specs.Inner.{is_after}

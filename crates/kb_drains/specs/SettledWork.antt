@@ -1,7 +1,7 @@
 -- A settlement adds no work that accounts may yet ask for by themselves.
 use Rattle.std.specs.Prelude.{ℕ, ◌≤◌, Bool, List}
-use Rattle.kb_codec.specs.declared.command.Command.TheVariants as kinds
-use Rattle.kb_codec.specs.declared.command.Settle.{Settle}
+use Rattle.kb_commands.specs.declared.command.Command.TheVariants as kinds
+use Rattle.kb_commands.specs.declared.command.Settle.{Settle}
 use Rattle.kb_machine.specs.Machines.{MachineValue}
 use Rattle.kb_machine.specs.Histories.{entry_after}
 use Rattle.kb_drains.specs.OwnWork.{all_work}

@@ -3,8 +3,9 @@ use Rattle.std.specs.Prelude.{ℕ, ◌+◌, ◌-◌, Bool, false, not, ◌&&◌,
 use Rattle.std.specs.Prelude.{None, option_and_then}
 use Rattle.std.specs.List.{list_all, range_with_len}
 use Rattle.kb_catalog.specs.declared.version.Version.{Version}
-use Rattle.kb_catalog.specs.declared.version.Product.{Product}
-use Rattle.kb_catalog.specs.Products.{has_name, product_named}
+use Rattle.kb_plans.specs.declared.product.Product.{Product}
+use Rattle.kb_plans.specs.Products.{has_name}
+use Rattle.kb_catalog.specs.Products.{product_named}
 use Rattle.kb_timeline.specs.declared.entry.Entry.{Entry}
 use Rattle.kb_timeline.specs.declared.subscription.Subscription.{Subscription}
 use Rattle.kb_timeline.specs.EntryDays.{entry_on}

@@ -1,8 +1,8 @@
 //! The cycle day by which a day is billed.
 ghost use Rattle.std.specs.Prelude.{◌≡◌, is_some, Some, unwrap_or, option_map};
 ghost use Rattle.std.specs.Prelude.{option_and_then};
-ghost use Rattle.kb_catalog.specs.declared.version.Phase.{Phase};
-ghost use Rattle.kb_catalog.specs.declared.version.Product.{Product};
+ghost use Rattle.kb_plans.specs.declared.phase.Phase.{Phase};
+ghost use Rattle.kb_plans.specs.declared.product.Product.{Product};
 ghost use Rattle.kb_catalog.specs.Products.{product_named};
 ghost use Rattle.kb_days.specs.Calendar.{day_of_month};
 ghost use Rattle.kb_due.specs.Governing.{choice_of};
@@ -12,9 +12,10 @@ use crate::Facts;
 use crate::governing::{Choice, Governing, choice_of};
 use crate::life::lead_of;
 use kb_align::next_start;
-use kb_catalog::{BillingAlign, Category, Phase, Plan, PlanAsk, Version};
+use kb_catalog::Version;
 use kb_days::{Bcd, Day, Name, Reach, day_of_month};
 use kb_money::Currency;
+use kb_plans::{BillingAlign, Category, Phase, Plan, PlanAsk};
 use kb_timeline::{Entry, Subscription};
 
 /// The cycle day by which a day of a subscription is billed: the account's, its lead's or its own.

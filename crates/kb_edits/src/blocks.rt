@@ -8,7 +8,7 @@ ghost use Rattle.kb_book.specs.BlockEdits as told;
 use crate::{is_reserved, with_state};
 use kb_blocking::{BlockState, Blocks, Scope};
 use kb_book::{Refusal, Unprepared};
-use kb_codec::{Block, BlockScope};
+use kb_commands::{Block, BlockScope};
 use kb_days::{Day, Name};
 use kb_terms::asked_day;
 use kb_timeline::Timeline;

@@ -6,7 +6,7 @@ ghost use Rattle.kb_book.specs.SubscriptionRows.{of_named, cancel_rows_of, cance
 
 use crate::{named_effect, place_of};
 use kb_book::{Refusal, Unprepared};
-use kb_codec::{Cancel, Uncancel};
+use kb_commands::{Cancel, Uncancel};
 use kb_days::{Day, LAST_DAY, Reach};
 use kb_due::Facts;
 use kb_terms::{asked_day, cancel_effect, is_over};

@@ -12,7 +12,7 @@ ghost use Rattle.kb_book.specs.SubscriptionRows.{is_too_late};
 use crate::{place_of, some_plan};
 use kb_blocking::Flag;
 use kb_book::{Refusal, Unprepared};
-use kb_codec::Change;
+use kb_commands::Change;
 use kb_days::{Day, LAST_DAY, Reach};
 use kb_due::{Facts, chain_of};
 use kb_terms::{

@@ -9,7 +9,7 @@ ghost use Rattle.kb_book.specs.BlockEdits as told;
 use crate::{own_name, with_state};
 use kb_blocking::{BlockState, Blocks, Flags, Scope};
 use kb_book::{Refusal, Unprepared};
-use kb_codec::{Pause, Resume};
+use kb_commands::{Pause, Resume};
 use kb_days::{Day, Name};
 use kb_terms::asked_day;
 use kb_timeline::Timeline;

@@ -11,7 +11,7 @@ use crate::some_plan;
 use kb_base::NoMemory;
 use kb_blocking::{Chain, Flag};
 use kb_book::{Refusal, Unprepared};
-use kb_codec::Create;
+use kb_commands::Create;
 use kb_days::{Day, Name};
 use kb_due::Facts;
 use kb_terms::{

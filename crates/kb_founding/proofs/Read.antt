@@ -8,7 +8,7 @@ use Rattle.toml.specs.Data.{Members}
 use Rattle.kb_catalog.specs.declared.version.Version.{Version}
 use Rattle.kb_overdue.specs.declared.state.OverdueState.{OverdueState}
 use Rattle.kb_catalog_text.specs.declared.fault.TextFault.{TextFault}
-use Rattle.kb_catalog_text.specs.Reads.{Read}
+use Rattle.kb_tables.specs.Reads.{Read}
 use Rattle.kb_catalog_text.specs.Texts.{max_bytes, text_read, version_judged, states_judged, catalog_read}
 use Rattle.kb_catalog_text.specs.Texts.{overdue_read}
 use Rattle.kb_catalog_text.specs.CatalogText.{version_in}

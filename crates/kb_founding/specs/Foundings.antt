@@ -9,9 +9,9 @@ use Rattle.kb_catalog_text.specs.declared.fault.TextFault.{TextFault}
 use Rattle.kb_catalog_text.specs.declared.fault.TextFault.TheVariants as texts
 use Rattle.kb_catalog_text.specs.Texts.{CatalogText, OverdueText, catalog_read, overdue_read}
 use Rattle.kb_catalog_text.specs.Texts.{text_read, document_of}
-use Rattle.kb_codec.specs.declared.command.Command.{Command}
-use Rattle.kb_codec.specs.declared.command.Command.TheVariants as kinds
-use Rattle.kb_codec.specs.Commands.{IsCatalogText, IsOverdueText}
+use Rattle.kb_commands.specs.declared.command.Command.{Command}
+use Rattle.kb_commands.specs.declared.command.Command.TheVariants as kinds
+use Rattle.kb_commands.specs.Commands.{IsCatalogText, IsOverdueText}
 use Rattle.kb_journal.specs.Format.{StandsFor}
 use Rattle.kb_log.specs.Entries.{History, payloads}
 use Rattle.kb_vault.specs.Places.{is_among}

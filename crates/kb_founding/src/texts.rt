@@ -2,7 +2,7 @@
 ghost use Rattle.std.specs.Prelude.{◌≡◌, ◌≤◌, ℕ, Err, IfOk, IfErr, IfSome};
 ghost use Rattle.kb_catalog_text.specs.Texts.{CatalogText, OverdueText, IsFaultOf, catalog_read};
 ghost use Rattle.kb_catalog_text.specs.Texts.{overdue_read};
-ghost use Rattle.kb_codec.specs.Commands.{IsCatalogText, IsOverdueText};
+ghost use Rattle.kb_commands.specs.Commands.{IsCatalogText, IsOverdueText};
 ghost use Rattle.kb_journal.specs.Format.{IsSized};
 ghost use Rattle.kb_log.specs.Entries.{payload};
 ghost use Rattle.kb_vault.specs.Places.{SameFiles, SameLanes};
@@ -12,7 +12,7 @@ ghost use Rattle.kb_founding.specs.Private.Readings.{IsReadAs};
 
 use crate::Unfounded;
 use kb_catalog_text::{TextFault, read, read_overdue};
-use kb_codec::{Catalog, Command, OverdueRules};
+use kb_commands::{Catalog, Command, OverdueRules};
 use kb_days::{Day, Name};
 use kb_log::payload_of;
 use kb_vault::Vault;

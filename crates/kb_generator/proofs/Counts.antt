@@ -2,7 +2,7 @@
 use Rattle.std.proofs.Common.{◌≡◌, ℕ, zero, suc, ◌+◌, ◌*◌, ◌≤◌, ◌%◌, List, [], ◌∷◌, ◌++◌, length, refl, arith}
 use Rattle.std.proofs.Common.{length-append, ap, Option, Some, None, slice_get}
 use Rattle.std.specs.Option.{option_to_list}
-use Rattle.kb_codec.specs.declared.command.Command.{Command}
+use Rattle.kb_commands.specs.declared.command.Command.{Command}
 use Rattle.kb_generator.specs.Draws.{next_state, drawn, after_draws}
 use Rattle.kb_generator.specs.MonthDays.{first_of_month}
 use Rattle.kb_generator.specs.SeedCommands.{choices, bill}

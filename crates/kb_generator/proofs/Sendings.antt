@@ -2,7 +2,7 @@
 use Rattle.std.proofs.Common.{◌≡◌, ℕ, zero, suc, ◌+◌, ◌-◌, ◌<◌, ◌%◌, List, [], ◌∷◌, ◌++◌, refl, arith}
 use Rattle.std.proofs.Common.{append_assoc, Option, Some, None, option_map, slice_get}
 use Rattle.std.specs.Option.{option_to_list}
-use Rattle.kb_codec.specs.declared.command.Command.{Command}
+use Rattle.kb_commands.specs.declared.command.Command.{Command}
 use Rattle.kb_generator.specs.declared.place.Place.{Place}
 use Rattle.kb_generator.specs.declared.place.Waiting.TheVariants.{Nothing, Creation, Bill}
 use Rattle.kb_generator.specs.Draws.{next_state, drawn, after_draws}

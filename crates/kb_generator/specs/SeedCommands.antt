@@ -5,8 +5,8 @@ use Rattle.std.specs.Prelude.{slice_get, refl}
 use Rattle.std.specs.Fmt.{digits}
 use Rattle.kb_days.specs.Dates.{january, february}
 use Rattle.kb_days.specs.declared.period.Period.TheVariants.{Monthly}
-use Rattle.kb_codec.specs.declared.command.Command.{Command}
-use Rattle.kb_codec.specs.declared.command.Command.TheVariants as kinds
+use Rattle.kb_commands.specs.declared.command.Command.{Command}
+use Rattle.kb_commands.specs.declared.command.Command.TheVariants as kinds
 use Rattle.kb_generator.specs.NumberedNames.{account_name}
 
 -- opens an account, by its first draw

@@ -4,7 +4,7 @@ use Rattle.std.specs.Option.{option_to_list}
 use Rattle.std.specs.Fmt.{digits}
 use Rattle.kb_days.specs.Calendar.{month_start, month_length}
 use Rattle.kb_days.specs.Dates.{january, february, march}
-use Rattle.kb_codec.specs.declared.command.Command.{Command}
+use Rattle.kb_commands.specs.declared.command.Command.{Command}
 use Rattle.kb_generator.specs.Draws.{next_state, drawn, after_draws}
 use Rattle.kb_generator.specs.NumberedNames.{key_name}
 use Rattle.kb_generator.specs.MonthDays.{first_of_month, start_day}

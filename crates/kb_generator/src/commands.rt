@@ -2,11 +2,13 @@
 ghost use Rattle.std.specs.Prelude.{◌≡◌, ◌≤◌, ◌-◌, true, IfSome, option_map, slice_get};
 ghost use Rattle.kb_generator.specs.SeedCommands.{opening, creation, pause, resumption, change};
 ghost use Rattle.kb_generator.specs.SeedCommands.{charge, credit, bill, choices, is_seeded};
-ghost use Rattle.kb_codec.specs.Commands.{IsAmount};
+ghost use Rattle.kb_commands.specs.Commands.{IsAmount};
 
 use crate::days::days_before;
 use crate::names::{account_name, named};
-use kb_codec::{Amount, Bill, Change, Charge, Command, Create, Credit, OpenAccount, Pause, Resume};
+use kb_commands::{
+    Amount, Bill, Change, Charge, Command, Create, Credit, OpenAccount, Pause, Resume,
+};
 use kb_days::{Bcd, Day, Name, Period};
 use kb_money::Currency;
 

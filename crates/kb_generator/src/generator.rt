@@ -5,7 +5,7 @@ ghost use Rattle.kb_generator.specs.Seeds.{commands_of};
 
 use crate::names::key_name;
 use crate::place::Place;
-use kb_codec::Command;
+use kb_commands::Command;
 use kb_days::Day;
 use std::marker::Model;
 
@@ -19,7 +19,7 @@ pub struct Generator {
 
 impl Model for Generator {
     ghost use Rattle.std.specs.Prelude.{ℕ, List, ◌+◌, ◌<◌, ◌^◌, length};
-    ghost use Rattle.kb_codec.specs.declared.command.Command.{Command as AnyCommand};
+    ghost use Rattle.kb_commands.specs.declared.command.Command.{Command as AnyCommand};
     ghost use Rattle.kb_generator.specs.Seeds.{with_keys};
     ghost use Rattle.kb_generator.specs.Private.Places.{unsent, IsPlace};
 

@@ -8,7 +8,7 @@ ghost use Rattle.kb_generator.specs.declared.place.Waiting.TheVariants.{Nothing}
 use crate::commands::{bill, choice, creation, opening};
 use crate::days::{first_of_month, start_day};
 use crate::draws::Draws;
-use kb_codec::Command;
+use kb_commands::Command;
 use kb_days::{Day, Name};
 
 /// How far the commands have come. An account is sent what waits, and then what its months bring; after them

@@ -8,8 +8,8 @@ use Rattle.kb_days.specs.Calendar.{last_day}
 use Rattle.kb_gateway.specs.declared.order.Asked.{Asked}
 use Rattle.kb_gateway.specs.Answers.{Notes}
 use Rattle.kb_payment.specs.declared.attempt.Status.{Status}
-use Rattle.kb_codec.specs.declared.command.Command.{Command}
-use Rattle.kb_codec.specs.declared.command.Command.TheVariants as kinds
+use Rattle.kb_commands.specs.declared.command.Command.{Command}
+use Rattle.kb_commands.specs.declared.command.Command.TheVariants as kinds
 use Rattle.kb_reply.specs.declared.reply.LaneReply.{LaneReply}
 use Rattle.kb_log.specs.Entries.{History}
 use Rattle.kb_log.specs.Logs.{LogValue}

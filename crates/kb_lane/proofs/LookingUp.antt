@@ -15,9 +15,9 @@ use Rattle.kb_payment.specs.declared.attempt.Status.{Status}
 use Rattle.kb_gateway.specs.declared.order.Asked.{Asked}
 use Rattle.kb_gateway.specs.declared.told.Seen.{Seen}
 use Rattle.kb_gateway.specs.declared.told.Saying.{Saying}
-use Rattle.kb_codec.specs.declared.command.Command.{Command}
-use Rattle.kb_codec.specs.declared.command.Command.TheVariants as kinds
-use Rattle.kb_codec.specs.declared.command.Settle.{Settle}
+use Rattle.kb_commands.specs.declared.command.Command.{Command}
+use Rattle.kb_commands.specs.declared.command.Command.TheVariants as kinds
+use Rattle.kb_commands.specs.declared.command.Settle.{Settle}
 use Rattle.kb_payment.specs.PaymentSums.{open_keys}
 use Rattle.kb_book.specs.Books.{BookValue}
 use Rattle.kb_book.specs.PaymentRows.{same_status}

@@ -1,7 +1,7 @@
 -- The replies to commands that aren't refused.
 use Rattle.std.proofs.Common.{◌≡◌, ℕ, true, true≢false, refl, sym, subst, ◌∙◌, ap}
-use Rattle.kb_codec.specs.declared.command.Command.{Command}
-use Rattle.kb_codec.specs.declared.command.Command.TheVariants as kinds
+use Rattle.kb_commands.specs.declared.command.Command.{Command}
+use Rattle.kb_commands.specs.declared.command.Command.TheVariants as kinds
 use Rattle.kb_reply.specs.declared.reply.LaneReply.{LaneReply}
 use Rattle.kb_reply.specs.declared.reply.LaneReply.TheVariants as replies
 use Rattle.kb_machine.specs.declared.change.Change.{Change}

@@ -8,7 +8,7 @@ use Rattle.kb_gateway.specs.declared.order.Order.{Order}
 use Rattle.kb_gateway.specs.declared.told.Told.{Told}
 use Rattle.kb_gateway.specs.declared.told.Saying.{Saying}
 use Rattle.kb_gateway.specs.Answers.{Notes, asked_of, said_of_ask}
-use Rattle.kb_codec.specs.declared.command.Command.{Command}
+use Rattle.kb_commands.specs.declared.command.Command.{Command}
 use Rattle.kb_journal.specs.Keeping.{IsFull}
 use Rattle.kb_book.specs.Books.{BookValue}
 use Rattle.kb_laws.specs.NextDues.{next_due}

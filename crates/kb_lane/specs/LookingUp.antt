@@ -17,8 +17,8 @@ use Rattle.kb_gateway.specs.declared.told.Seen.{Seen}
 use Rattle.kb_gateway.specs.declared.told.Seen.TheVariants as seen
 use Rattle.kb_gateway.specs.declared.told.Saying.{Saying}
 use Rattle.kb_gateway.specs.Answers.{Notes, said_of_look_up, status_of}
-use Rattle.kb_codec.specs.declared.command.Command.{Command}
-use Rattle.kb_codec.specs.declared.command.Command.TheVariants as kinds
+use Rattle.kb_commands.specs.declared.command.Command.{Command}
+use Rattle.kb_commands.specs.declared.command.Command.TheVariants as kinds
 use Rattle.kb_book.specs.Books.{BookValue}
 use Rattle.kb_book.specs.PaymentRows.{same_status}
 use Rattle.kb_reply.specs.declared.step.Step.{Step}

@@ -7,7 +7,7 @@ use Rattle.kb_log.specs.Entries.{Entry, payload}
 use Rattle.kb_log.specs.Logs.{MayAppend}
 use Rattle.kb_machine.specs.Judged.{Judged, is_new}
 use Rattle.kb_journal.specs.Keeping.{IsFull}
-use Rattle.kb_codec.specs.declared.command.Command.{Command}
+use Rattle.kb_commands.specs.declared.command.Command.{Command}
 use Rattle.kb_machine.specs.Machines.{MachineValue, judged, reply_of}
 use Rattle.kb_lane.specs.Lanes.{LaneValue, machine_of}
 use Rattle.kb_works.specs.Works.{work_of}

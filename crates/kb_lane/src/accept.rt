@@ -19,7 +19,7 @@ ghost use Rattle.kb_lane.specs.Private.Runs.{SettlesNone};
 
 use crate::{Lane, LaneReply, Work};
 use kb_book::Unprepared;
-use kb_codec::Command;
+use kb_commands::Command;
 use kb_days::Day;
 use kb_disk::Disk;
 use kb_gateway::Gateway;

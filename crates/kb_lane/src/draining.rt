@@ -17,7 +17,7 @@ ghost use Rattle.kb_lane.specs.Draining.{due_of, Looks, Asks, Orders, Writes, Is
 ghost use Rattle.kb_lane.specs.Private.Runs.{SettlesNone, IsBusy};
 
 use crate::{Lane, LaneReply, Step, Work};
-use kb_codec::Command;
+use kb_commands::Command;
 use kb_days::{Day, Name};
 use kb_disk::Disk;
 use kb_gateway::{Gateway, Order};

@@ -2,7 +2,7 @@
 ghost use Rattle.std.specs.Prelude.{◌≡◌, ◌⊎◌, ◌++◌, true, false, None, Some, IfOk, OnOk};
 ghost use Rattle.std.specs.Prelude.{if◌then◌else◌};
 ghost use Rattle.std.specs.List.{list_any};
-ghost use Rattle.kb_codec.specs.declared.command.Command.TheVariants as kinds;
+ghost use Rattle.kb_commands.specs.declared.command.Command.TheVariants as kinds;
 ghost use Rattle.kb_payment.specs.declared.attempt.Attempt.{Attempt as AnyAttempt};
 ghost use Rattle.kb_gateway.specs.declared.order.Asked.{Asked as AnyAsked};
 ghost use Rattle.kb_reply.specs.declared.step.Step.TheVariants as steps;
@@ -20,7 +20,7 @@ ghost use Rattle.kb_lane.specs.Private.Runs.{SettlesNone};
 
 use crate::{Lane, Step, Work};
 use kb_base::{Failed, NoMemory};
-use kb_codec::{Command, Settle};
+use kb_commands::{Command, Settle};
 use kb_days::{Day, Name};
 use kb_disk::Disk;
 use kb_gateway::{Asked, Gateway, Seen, status_of};

@@ -3,7 +3,7 @@
 use Rattle.std.proofs.Common.{ℕ, List, Option, Some, None, arith}
 use Rattle.std.proofs.lemmas.Int.{ints, clamps}
 use Rattle.kb_days.specs.Calendar.{first_day, charged_days}
-use Rattle.kb_codec.specs.declared.command.Command.{Command}
+use Rattle.kb_commands.specs.declared.command.Command.{Command}
 use Rattle.kb_book.specs.Worlds.{WorldValue}
 use Rattle.kb_book.specs.Books.{BookValue}
 use Rattle.kb_book.specs.Edits.{begun}

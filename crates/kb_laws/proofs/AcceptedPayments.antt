@@ -15,9 +15,9 @@ use Rattle.kb_payment.specs.declared.attempt.Kind.TheVariants.{Refund, Chargebac
 use Rattle.kb_payment.specs.declared.attempt.Status.TheVariants.{Unknown, Success}
 use Rattle.kb_payment.specs.PaymentSums.{PaymentsValue, attempt_of, with_attempt}
 use Rattle.kb_payment.specs.PaymentEdits.{purchase_of, amount_of, give_back_of, given_back, give_back_fault}
-use Rattle.kb_codec.specs.declared.command.Command.{Command}
-use Rattle.kb_codec.specs.declared.command.Command.TheVariants as kinds
-use Rattle.kb_codec.specs.declared.command.Pay.{Pay}
+use Rattle.kb_commands.specs.declared.command.Command.{Command}
+use Rattle.kb_commands.specs.declared.command.Command.TheVariants as kinds
+use Rattle.kb_commands.specs.declared.command.Pay.{Pay}
 use Rattle.kb_book.specs.declared.refusal.Refusal.{Refusal}
 use Rattle.kb_book.specs.declared.refusal.Refusal.TheVariants as refusal
 use Rattle.kb_book.specs.Worlds.{WorldValue}

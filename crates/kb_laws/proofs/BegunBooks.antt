@@ -12,12 +12,12 @@ use Rattle.kb_timeline.specs.TimelineEdits.{TimelineValue, with_edit}
 use Rattle.kb_timeline.specs.TimelineEdits.{uncancelled, subscription_named}
 use Rattle.kb_timeline.specs.SubscriptionEdits.{uncancel_of}
 use Rattle.kb_timeline.proofs.EditedMembers.{length-edited_at}
-use Rattle.kb_codec.specs.declared.command.Command.{Command}
-use Rattle.kb_codec.specs.declared.command.Command.TheVariants as kinds
-use Rattle.kb_codec.specs.declared.command.Create.{Create}
-use Rattle.kb_codec.specs.declared.command.Change.{Change}
-use Rattle.kb_codec.specs.declared.command.Cancel.{Cancel}
-use Rattle.kb_codec.specs.declared.command.Uncancel.{Uncancel}
+use Rattle.kb_commands.specs.declared.command.Command.{Command}
+use Rattle.kb_commands.specs.declared.command.Command.TheVariants as kinds
+use Rattle.kb_commands.specs.declared.command.Create.{Create}
+use Rattle.kb_commands.specs.declared.command.Change.{Change}
+use Rattle.kb_commands.specs.declared.command.Cancel.{Cancel}
+use Rattle.kb_commands.specs.declared.command.Uncancel.{Uncancel}
 use Rattle.kb_due.specs.Facts.{FactsValue}
 use Rattle.kb_book.specs.SubscriptionEdits.{started, with_change, with_cancel, with_uncancel, at_place}
 use Rattle.kb_book.specs.Worlds.{WorldValue}

@@ -6,8 +6,8 @@ use Rattle.kb_days.specs.Calendar.{first_day, charged_days}
 use Rattle.kb_credit.specs.declared.row.Row.{Row}
 use Rattle.kb_credit.specs.InvoiceRows.{balance_of}
 use Rattle.kb_payment.specs.declared.attempt.Attempt.{Attempt}
-use Rattle.kb_codec.specs.declared.command.Command.TheVariants as kinds
-use Rattle.kb_codec.specs.declared.command.OpenAccount.{OpenAccount}
+use Rattle.kb_commands.specs.declared.command.Command.TheVariants as kinds
+use Rattle.kb_commands.specs.declared.command.OpenAccount.{OpenAccount}
 use Rattle.kb_billing.specs.Numbers.{AreBelow}
 use Rattle.kb_book.specs.Worlds.{WorldValue}
 use Rattle.kb_book.specs.Books.{BookValue, new_book}

@@ -13,8 +13,8 @@ use Rattle.kb_credit.specs.InvoiceRows.{InvoicesValue}
 use Rattle.kb_credit.proofs.SizeLaws.{size_of-push}
 use Rattle.kb_credit.proofs.GrownSizes.{payments-issued, payments-paid_at, payments-levelled}
 use Rattle.kb_payment.specs.PaymentSums.{PaymentsValue, Moves}
-use Rattle.kb_codec.specs.declared.command.Command.{Command}
-use Rattle.kb_codec.specs.declared.command.Command.TheVariants as kinds
+use Rattle.kb_commands.specs.declared.command.Command.{Command}
+use Rattle.kb_commands.specs.declared.command.Command.TheVariants as kinds
 use Rattle.kb_book.specs.declared.refusal.Refusal.TheVariants as refusal
 use Rattle.kb_book.specs.Worlds.{WorldValue}
 use Rattle.kb_book.specs.Books.{BookValue}

@@ -7,7 +7,7 @@ use Rattle.kb_days.specs.Calendar.{first_day, charged_days}
 use Rattle.kb_credit.specs.Items.{amount_of}
 use Rattle.kb_credit.specs.InvoiceRows.{InvoicesValue}
 use Rattle.kb_credit.proofs.Integers.{nat_abs-add}
-use Rattle.kb_codec.specs.declared.command.Command.{Command}
+use Rattle.kb_commands.specs.declared.command.Command.{Command}
 use Rattle.kb_book.specs.Worlds.{WorldValue}
 use Rattle.kb_book.specs.Issues.{Issue}
 use Rattle.kb_book.specs.Books.{BookValue}

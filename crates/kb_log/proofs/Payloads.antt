@@ -4,9 +4,10 @@ use Rattle.std.proofs.Common.{refl, sym, ap, ◌∙◌, arith, length-append}
 use Rattle.std.specs.Int.{w32, to_be_bytes, from_be_bytes}
 use Rattle.std.proofs.lemmas.Nat.{from_be_bytes-to_be_bytes_4}
 use Rattle.std.proofs.Math.Seq.{take-append_seam, drop-append_seam}
-use Rattle.kb_codec.specs.declared.command.Command.{Command}
-use Rattle.kb_codec.specs.Commands.{spelling, IsDay}
-use Rattle.kb_codec.specs.Members.{day_bytes, four_bytes}
+use Rattle.kb_commands.specs.declared.command.Command.{Command}
+use Rattle.kb_codec.specs.Commands.{spelling}
+use Rattle.kb_commands.specs.Commands.{IsDay}
+use Rattle.kb_members.specs.Members.{day_bytes, four_bytes}
 use Rattle.kb_log.specs.Entries.{payload}
 use Rattle.kb_log.specs.Private.Parts.{both_of}
 

@@ -1,10 +1,11 @@
 -- Commands as they are written down, each with the day on which it came.
 use Rattle.std.specs.Prelude.{ℕ, ◌≡◌, List, [], ◌∷◌, ◌++◌, map, codes, refl}
 use Rattle.kb_days.specs.Dates.{march}
-use Rattle.kb_codec.specs.declared.command.Command.{Command}
-use Rattle.kb_codec.specs.declared.command.Command.TheVariants as kinds
-use Rattle.kb_codec.specs.Commands.{spelling, IsDay, IsCommand}
-use Rattle.kb_codec.specs.Members.{day_bytes, four_bytes, name_bytes}
+use Rattle.kb_commands.specs.declared.command.Command.{Command}
+use Rattle.kb_commands.specs.declared.command.Command.TheVariants as kinds
+use Rattle.kb_codec.specs.Commands.{spelling}
+use Rattle.kb_commands.specs.Commands.{IsDay, IsCommand}
+use Rattle.kb_members.specs.Members.{day_bytes, four_bytes, name_bytes}
 
 -- a command, and its day
 abbrev pub Entry : Type 0

@@ -8,7 +8,7 @@ ghost use Rattle.kb_journal.specs.Keeping.{Holds, RefusesToCreate};
 ghost use Rattle.kb_log.specs.Entries.{payload, payloads};
 ghost use Rattle.kb_log.specs.Logs.{Appends, StandsForLog};
 
-use kb_codec::Command;
+use kb_commands::Command;
 use kb_days::Day;
 use kb_disk::Disk;
 use kb_history::History;

@@ -1,15 +1,16 @@
 //! A command with its day, as bytes.
 ghost use Rattle.std.specs.Prelude.{◌≡◌, ◌<◌, ◌^◌, ℕ, IfOk, OnOk, IfSome, Some, length};
 ghost use Rattle.std.specs.Int.{w32, to_be_bytes};
-ghost use Rattle.kb_codec.specs.declared.command.Command.{Command as AnyCommand};
-ghost use Rattle.kb_codec.specs.Commands.{IsDay};
-ghost use Rattle.kb_codec.specs.Members.{day_bytes};
+ghost use Rattle.kb_commands.specs.declared.command.Command.{Command as AnyCommand};
+ghost use Rattle.kb_commands.specs.Commands.{IsDay};
+ghost use Rattle.kb_members.specs.Members.{day_bytes};
 ghost use Rattle.kb_journal.specs.Format.{IsSized};
 ghost use Rattle.kb_log.specs.Entries.{payload, IsEntry};
 ghost use Rattle.kb_log.specs.Private.Parts.{both_of};
 
 use kb_base::NoMemory;
-use kb_codec::{Command, decode, encode};
+use kb_codec::{decode, encode};
+use kb_commands::Command;
 use kb_days::Day;
 use kb_journal::MAX_RECORD;
 use std::alloc::Global;
@@ -32,7 +33,7 @@ pub fn payload_of(alloc: Global, today: Day, command: &Command) -> Result<Vec<u8
 }
 
 /// A day in four bytes.
-#[tactic(auto, unfolding(kb_codec::specs::Members::day_bytes, kb_codec::specs::Members::four_bytes))]
+#[tactic(auto, unfolding(kb_members::specs::Members::day_bytes, kb_members::specs::Members::four_bytes))]
 fn day_bytes(today: Day) -> [u8; 4]
     ensures bytes { result ≡ day_bytes today }
     ensures dated { IsDay today }

@@ -1,6 +1,6 @@
 -- A settlement of an account that is there is new, with what its book makes of it.
 use Rattle.std.proofs.Common.{◌≡◌, ℕ, List, Some, Ok, refl}
-use Rattle.kb_codec.specs.declared.command.Command.{Command}
+use Rattle.kb_commands.specs.declared.command.Command.{Command}
 use Rattle.kb_book.specs.declared.answer.Answer.{Answer}
 use Rattle.kb_book.specs.Books.{BookValue}
 use Rattle.kb_book.specs.Steps.{step}

@@ -5,8 +5,8 @@ use Rattle.std.specs.FinMap.{find, put}
 use Rattle.kb_sharing.specs.Keys.{by_words}
 use Rattle.kb_days.specs.Calendar.{first_day, charged_days}
 use Rattle.kb_days.specs.Dates.{march}
-use Rattle.kb_codec.specs.declared.command.Command.{Command}
-use Rattle.kb_codec.specs.declared.command.Command.TheVariants as kinds
+use Rattle.kb_commands.specs.declared.command.Command.{Command}
+use Rattle.kb_commands.specs.declared.command.Command.TheVariants as kinds
 use Rattle.kb_book.specs.declared.answer.Answer.{Answer}
 use Rattle.kb_book.specs.declared.refusal.Refusal.{Refusal}
 use Rattle.kb_book.specs.declared.refusal.Refusal.TheVariants.{NoAccount}

@@ -2,7 +2,7 @@
 ghost use Rattle.std.specs.Prelude.{◌≡◌, ℕ, true, IfSome, IfNone};
 ghost use Rattle.kb_machine.specs.Machines.{MachineValue, account_of, judged, account_judged, is_text};
 
-use kb_codec::Command;
+use kb_commands::Command;
 use kb_days::Name;
 
 /// The account that a command is on; none for a text.

@@ -16,7 +16,7 @@ use kb_account::{Book, Prepared, World};
 use kb_base::NoMemory;
 use kb_book::{Refusal, Unprepared};
 use kb_catalog::Catalog;
-use kb_codec::Command;
+use kb_commands::Command;
 use kb_days::{Day, Name};
 use kb_overdue::Config;
 use kb_reply::LaneReply;

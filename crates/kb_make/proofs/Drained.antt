@@ -7,7 +7,7 @@ use Rattle.kb_gateway.specs.declared.told.Call.{Call}
 use Rattle.kb_gateway.specs.declared.told.Saying.{Saying}
 use Rattle.kb_gateway.specs.declared.told.Told.{Told}
 use Rattle.kb_gateway.specs.declared.told.Told.TheVariants.{Processed}
-use Rattle.kb_codec.specs.declared.command.Command.{Command}
+use Rattle.kb_commands.specs.declared.command.Command.{Command}
 use Rattle.kb_log.specs.Logs.{LogValue}
 use Rattle.kb_machine.specs.Histories.{replay}
 use Rattle.kb_reply.specs.declared.step.Step.TheVariants as steps

@@ -1,7 +1,7 @@
 -- What the performing of a command leaves, by its reply.
 use Rattle.std.proofs.Common.{◌≡◌, ℕ, Bool, true, false, true≢false, ◌&&◌, List, [], ◌++◌, if◌then◌else◌}
 use Rattle.std.proofs.Common.{is_some, IfOk, OnOk, refl, sym, ap, ap₂, ◌∙◌}
-use Rattle.kb_codec.specs.declared.command.Command.{Command}
+use Rattle.kb_commands.specs.declared.command.Command.{Command}
 use Rattle.kb_reply.specs.declared.reply.LaneReply.{LaneReply}
 use Rattle.kb_reply.specs.declared.reply.LaneReply.TheVariants as replies
 use Rattle.kb_machine.specs.Judged.{Judged, New, Again, Refused, after_judged, is_new, refusal_in}

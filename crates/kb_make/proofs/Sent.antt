@@ -2,8 +2,8 @@
 use Rattle.std.proofs.Common.{◌≡◌, ℕ, ◌+◌, Bool, true, false, true≢false, List, [], ◌∷◌, if◌then◌else◌, ◌≤◌}
 use Rattle.std.proofs.Common.{zero-add, refl, sym, ap, subst, ◌∙◌, arith}
 use mir.Val.{bool_byte}
-use Rattle.kb_codec.specs.declared.command.Command.{Command}
-use Rattle.kb_codec.specs.declared.command.Command.TheVariants as kinds
+use Rattle.kb_commands.specs.declared.command.Command.{Command}
+use Rattle.kb_commands.specs.declared.command.Command.TheVariants as kinds
 use Rattle.kb_generator.specs.SeedCommands.{is_seeded}
 use Rattle.kb_log.specs.Entries.{Entry}
 use Rattle.kb_machine.specs.Machines.{MachineValue, is_callers, is_text}

@@ -4,7 +4,7 @@ use Rattle.std.specs.Prelude.{Ok, if◌then◌else◌}
 use Rattle.kb_days.specs.Dates.{january}
 use Rattle.kb_shop.specs.Shops.{shop_catalog, shop_overdue}
 use Rattle.kb_catalog_text.specs.Texts.{CatalogText, OverdueText}
-use Rattle.kb_codec.specs.declared.command.Command.{Command}
+use Rattle.kb_commands.specs.declared.command.Command.{Command}
 use Rattle.kb_gateway.specs.declared.told.Told.TheVariants.{Processed}
 use Rattle.kb_log.specs.Entries.{Entry}
 use Rattle.kb_machine.specs.Judged.{is_new, refusal_in}

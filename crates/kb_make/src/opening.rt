@@ -12,7 +12,7 @@ use crate::gateway::PaidAtOnce;
 use crate::sending::{MemoryLane, perform};
 use kb_base::NoMemory;
 use kb_catalog_text::{read, read_overdue};
-use kb_codec::{Catalog, Command, OverdueRules};
+use kb_commands::{Catalog, Command, OverdueRules};
 use kb_days::{Day, Name};
 use kb_disk::MemoryDisk;
 use kb_lane::Lane;

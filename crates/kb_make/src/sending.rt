@@ -8,7 +8,7 @@ ghost use Rattle.kb_make.specs.Private.Sending.{busy_of, told_refused};
 use crate::gateway::PaidAtOnce;
 use kb_base::NoMemory;
 use kb_bills::drain;
-use kb_codec::Command;
+use kb_commands::Command;
 use kb_days::Day;
 use kb_disk::MemoryDisk;
 use kb_generator::Generator;

@@ -1,6 +1,6 @@
 -- A command that is new, behind those that were replayed.
 use Rattle.std.proofs.Common.{◌≡◌, ℕ, ◌+◌, List, [], ◌∷◌, ◌++◌, length, sym, ap, ◌∙◌}
-use Rattle.kb_codec.specs.declared.command.Command.{Command}
+use Rattle.kb_commands.specs.declared.command.Command.{Command}
 use Rattle.kb_reply.specs.declared.reply.LaneReply.{LaneReply}
 use Rattle.kb_log.specs.Entries.{History, payload}
 use Rattle.kb_machine.specs.Judged.{New}

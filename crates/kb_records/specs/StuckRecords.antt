@@ -1,6 +1,6 @@
 -- Records that stand for no new command.
 use Rattle.std.specs.Prelude.{ℕ, ◌≡◌, ◌+◌, false, List, [], ◌∷◌, ◌++◌, length, refl}
-use Rattle.kb_codec.specs.Members.{day_bytes, four_bytes}
+use Rattle.kb_members.specs.Members.{day_bytes, four_bytes}
 use Rattle.kb_journal.specs.Format.{blocks}
 use Rattle.kb_log.specs.Entries.{Entry, History, payload, payloads, IsEntry}
 use Rattle.kb_machine.specs.Judged.{is_new}

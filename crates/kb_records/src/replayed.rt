@@ -7,7 +7,7 @@ ghost use Rattle.kb_records.specs.Private.Replays.{Adds, IsUnreplayed, place_of}
 
 use kb_base::NoMemory;
 use kb_book::Unprepared;
-use kb_codec::Command;
+use kb_commands::Command;
 use kb_days::Day;
 use kb_history::History;
 use kb_journal::{LoadFault, Records};

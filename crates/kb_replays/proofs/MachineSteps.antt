@@ -4,10 +4,10 @@ use Rattle.std.proofs.Common.{cond, option_map, bytes_eq}
 use Rattle.std.proofs.Common.{refl, ap, ◌∙◌}
 use Rattle.std.specs.FinMap.{find}
 use Rattle.kb_sharing.specs.Keys.{by_words}
-use Rattle.kb_codec.specs.declared.command.Command.{Command}
-use Rattle.kb_codec.specs.declared.command.Catalog.{Catalog}
-use Rattle.kb_codec.specs.declared.command.OverdueRules.{OverdueRules}
-use Rattle.kb_codec.specs.declared.command.Command.TheVariants as kinds
+use Rattle.kb_commands.specs.declared.command.Command.{Command}
+use Rattle.kb_commands.specs.declared.command.Catalog.{Catalog}
+use Rattle.kb_commands.specs.declared.command.OverdueRules.{OverdueRules}
+use Rattle.kb_commands.specs.declared.command.Command.TheVariants as kinds
 use Rattle.kb_codec.specs.Commands.{spelling}
 use Rattle.kb_book.specs.declared.refusal.Refusal.TheVariants as refusal
 use Rattle.kb_book.specs.Rows.{first_refusal}

@@ -1,7 +1,7 @@
 -- Which commands share a request key.
 use Rattle.std.specs.Prelude.{ℕ, ◌≡◌, List, None, codes, refl}
-use Rattle.kb_codec.specs.declared.command.Command.{Command}
-use Rattle.kb_codec.specs.declared.command.Command.TheVariants as kinds
+use Rattle.kb_commands.specs.declared.command.Command.{Command}
+use Rattle.kb_commands.specs.declared.command.Command.TheVariants as kinds
 use Rattle.kb_book.specs.Steps.{key_of}
 use Rattle.kb_machine.specs.Machines.{account_of}
 use Rattle.kb_replays.specs.Openings.{opening_of}

@@ -1,7 +1,7 @@
 -- An opening, for examples.
 use Rattle.std.specs.Prelude.{ℕ, false, List, codes}
 use Rattle.kb_days.specs.Dates.{march}
-use Rattle.kb_codec.specs.declared.command.Command.TheVariants as kinds
+use Rattle.kb_commands.specs.declared.command.Command.TheVariants as kinds
 use Rattle.kb_log.specs.Entries.{Entry}
 
 -- the opening of an account, under the key k1

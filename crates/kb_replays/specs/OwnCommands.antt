@@ -1,7 +1,7 @@
 -- What the book of an account and the replies on it depend on: its own commands, and the texts.
 use Rattle.std.specs.Prelude.{ℕ, ◌≡◌, ◌⊎◌, Bool, true, ◌||◌, bytes_eq}
 use Rattle.std.specs.Prelude.{List, [], ◌∷◌, ◌++◌, filter, codes, refl}
-use Rattle.kb_codec.specs.declared.command.Command.{Command}
+use Rattle.kb_commands.specs.declared.command.Command.{Command}
 use Rattle.kb_book.specs.Rows.{limit}
 use Rattle.kb_reply.specs.declared.reply.LaneReply.TheVariants as replies
 use Rattle.kb_log.specs.Entries.{Entry, History}

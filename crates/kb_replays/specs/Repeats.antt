@@ -1,7 +1,7 @@
 -- A command that comes again, in a history of commands.
 use Rattle.std.specs.Prelude.{ℕ, ◌≡◌, true, [], ◌∷◌, ◌++◌, codes, refl}
 use Rattle.kb_days.specs.Dates.{march, april}
-use Rattle.kb_codec.specs.Members.{name_bytes, currency_bytes, bcd_bytes, truth_bytes}
+use Rattle.kb_members.specs.Members.{name_bytes, currency_bytes, bcd_bytes, truth_bytes}
 use Rattle.kb_book.specs.Steps.{step}
 use Rattle.kb_reply.specs.declared.reply.LaneReply.{LaneReply}
 use Rattle.kb_log.specs.Entries.{Entry, History}

@@ -7,7 +7,7 @@ use Rattle.kb_catalog.specs.declared.version.Version.{Version}
 use Rattle.kb_overdue.specs.declared.state.OverdueState.{OverdueState}
 use Rattle.kb_catalog_text.specs.declared.fault.TextFault.{TextFault}
 use Rattle.kb_catalog_text.specs.Texts.{catalog_read, overdue_read}
-use Rattle.kb_codec.specs.declared.command.Command.{Command}
+use Rattle.kb_commands.specs.declared.command.Command.{Command}
 use Rattle.kb_account.specs.declared.query.Query.{Query}
 use Rattle.kb_machine.specs.Machines.{is_callers}
 use Rattle.kb_request.specs.declared.fault.JsonFault.TheVariants as json

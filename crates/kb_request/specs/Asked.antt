@@ -12,25 +12,25 @@ use Rattle.kb_overdue.specs.declared.state.OverdueState.{OverdueState}
 use Rattle.kb_catalog_text.specs.declared.fault.TextFault.{TextFault}
 use Rattle.kb_catalog_text.specs.declared.fault.TextFault.TheVariants as texts
 use Rattle.kb_catalog_text.specs.Texts.{catalog_read, overdue_read}
-use Rattle.kb_codec.specs.declared.scope.BlockScope.{BlockScope}
-use Rattle.kb_codec.specs.declared.scope.BlockScope.TheVariants as scope
-use Rattle.kb_codec.specs.declared.command.Command.{Command}
-use Rattle.kb_codec.specs.declared.command.Command.TheVariants as commands
-use Rattle.kb_codec.specs.declared.command.OpenAccount.{OpenAccount}
-use Rattle.kb_codec.specs.declared.command.Create.{Create}
-use Rattle.kb_codec.specs.declared.command.Change.{Change}
-use Rattle.kb_codec.specs.declared.command.Cancel.{Cancel}
-use Rattle.kb_codec.specs.declared.command.Uncancel.{Uncancel}
-use Rattle.kb_codec.specs.declared.command.Pause.{Pause}
-use Rattle.kb_codec.specs.declared.command.Resume.{Resume}
-use Rattle.kb_codec.specs.declared.command.Block.{Block}
-use Rattle.kb_codec.specs.declared.command.Bill.{Bill}
-use Rattle.kb_codec.specs.declared.command.Charge.{Charge}
-use Rattle.kb_codec.specs.declared.command.Credit.{Credit}
-use Rattle.kb_codec.specs.declared.command.Pay.{Pay}
-use Rattle.kb_codec.specs.declared.command.Refund.{Refund}
-use Rattle.kb_codec.specs.declared.command.Chargeback.{Chargeback}
-use Rattle.kb_codec.specs.declared.command.Autopay.{Autopay}
+use Rattle.kb_commands.specs.declared.scope.BlockScope.{BlockScope}
+use Rattle.kb_commands.specs.declared.scope.BlockScope.TheVariants as scope
+use Rattle.kb_commands.specs.declared.command.Command.{Command}
+use Rattle.kb_commands.specs.declared.command.Command.TheVariants as commands
+use Rattle.kb_commands.specs.declared.command.OpenAccount.{OpenAccount}
+use Rattle.kb_commands.specs.declared.command.Create.{Create}
+use Rattle.kb_commands.specs.declared.command.Change.{Change}
+use Rattle.kb_commands.specs.declared.command.Cancel.{Cancel}
+use Rattle.kb_commands.specs.declared.command.Uncancel.{Uncancel}
+use Rattle.kb_commands.specs.declared.command.Pause.{Pause}
+use Rattle.kb_commands.specs.declared.command.Resume.{Resume}
+use Rattle.kb_commands.specs.declared.command.Block.{Block}
+use Rattle.kb_commands.specs.declared.command.Bill.{Bill}
+use Rattle.kb_commands.specs.declared.command.Charge.{Charge}
+use Rattle.kb_commands.specs.declared.command.Credit.{Credit}
+use Rattle.kb_commands.specs.declared.command.Pay.{Pay}
+use Rattle.kb_commands.specs.declared.command.Refund.{Refund}
+use Rattle.kb_commands.specs.declared.command.Chargeback.{Chargeback}
+use Rattle.kb_commands.specs.declared.command.Autopay.{Autopay}
 use Rattle.kb_account.specs.declared.query.Query.{Query}
 use Rattle.kb_account.specs.declared.query.Query.TheVariants as queries
 use Rattle.kb_request.specs.declared.fault.RequestFault.{RequestFault}

@@ -11,13 +11,13 @@ use Rattle.kb_days.specs.DateText.{read_day, named_day, date_text, civil_text}
 use Rattle.kb_days.specs.declared.period.Period.TheVariants as period
 use Rattle.kb_overdue.specs.ConfigRules.{fault_of, is_broken_at}
 use Rattle.kb_catalog_text.specs.declared.fault.TextFault.TheVariants as text
-use Rattle.kb_catalog_text.specs.Reads.{keys_read, first_failing, required, optional, read_or, read_array}
-use Rattle.kb_catalog_text.specs.Reads.{read_table, read_items}
+use Rattle.kb_tables.specs.Reads.{keys_read, first_failing, required, optional, read_or, read_array}
+use Rattle.kb_tables.specs.Reads.{read_table, read_items}
 use Rattle.kb_catalog_text.specs.OverdueText.{states_in, state_in}
 use Rattle.kb_catalog_text.specs.CatalogText.{version_in}
 use Rattle.kb_catalog_text.specs.Texts.{text_read, document_of}
-use Rattle.kb_codec.specs.declared.command.Command.TheVariants as commands
-use Rattle.kb_codec.specs.declared.scope.BlockScope.TheVariants as scope
+use Rattle.kb_commands.specs.declared.command.Command.TheVariants as commands
+use Rattle.kb_commands.specs.declared.scope.BlockScope.TheVariants as scope
 use Rattle.kb_account.specs.declared.query.Query.TheVariants as queries
 use Rattle.kb_request.specs.declared.fault.JsonFault.TheVariants as json
 use Rattle.kb_request.specs.declared.fault.RequestFault.TheVariants as fault

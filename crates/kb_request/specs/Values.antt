@@ -11,9 +11,9 @@ use Rattle.kb_days.specs.declared.period.Period.{Period}
 use Rattle.kb_days.specs.declared.period.Period.TheVariants as period
 use Rattle.kb_days.specs.Periods.{period_word}
 use Rattle.kb_money.specs.Currency.{is_currency}
-use Rattle.kb_codec.specs.declared.amount.TheConstants.{MAX_AMOUNT}
-use Rattle.kb_codec.specs.declared.scope.BlockScope.{BlockScope}
-use Rattle.kb_codec.specs.declared.scope.BlockScope.TheVariants as scope
+use Rattle.kb_commands.specs.declared.amount.TheConstants.{MAX_AMOUNT}
+use Rattle.kb_commands.specs.declared.scope.BlockScope.{BlockScope}
+use Rattle.kb_commands.specs.declared.scope.BlockScope.TheVariants as scope
 
 -- a text that passes a test
 unfoldable pub text_where : (List ℕ → Bool) → Data → Option (List ℕ)

@@ -5,7 +5,7 @@ use Rattle.std.specs.List.{list_any}
 use Rattle.serde_json.specs.Data.{Data, Members, string}
 use Rattle.serde_json.specs.Data as json
 use Rattle.serde_json.specs.Find.{get_member, as_str, as_bool}
-use Rattle.kb_codec.specs.declared.amount.TheConstants.{MAX_AMOUNT}
+use Rattle.kb_commands.specs.declared.amount.TheConstants.{MAX_AMOUNT}
 use Rattle.kb_request.specs.declared.kind.Kind.{Kind}
 use Rattle.kb_request.specs.declared.kind.Kind.TheVariants as kinds
 use Rattle.kb_request.specs.declared.member.Member.{Member}

@@ -16,7 +16,7 @@ use crate::queries::{account_query, invoice_query, payment_query, subscription_q
 use crate::{RequestFault, What};
 use kb_account::Query;
 use kb_catalog_text::{read, read_overdue};
-use kb_codec::{Catalog, Command, OverdueRules};
+use kb_commands::{Catalog, Command, OverdueRules};
 use std::alloc::Global;
 
 /// What a request of a kind asks for.

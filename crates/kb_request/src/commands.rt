@@ -11,7 +11,7 @@ use crate::found::{
 };
 use crate::member::Member;
 use crate::object::Object;
-use kb_codec::{
+use kb_commands::{
     Autopay, Bill, Block, Cancel, Change, Charge, Chargeback, Create, Credit, OpenAccount, Pause,
     Pay, Refund, Resume, Uncancel,
 };

@@ -10,7 +10,7 @@ use crate::values::{
     amount_in, bcd_in, currency_in, day_in, invoice_in, name_in, period_in, scope_in,
 };
 use kb_blocking::Flags;
-use kb_codec::{Amount, BlockScope, InvoiceNo};
+use kb_commands::{Amount, BlockScope, InvoiceNo};
 use kb_days::{Bcd, Day, Name, Period};
 use kb_money::Currency;
 

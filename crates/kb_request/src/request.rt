@@ -1,7 +1,7 @@
 //! Requests.
 
 use kb_account::Query;
-use kb_codec::Command;
+use kb_commands::Command;
 use kb_days::Day;
 
 /// What a line asks for, and on which day.

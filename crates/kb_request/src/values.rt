@@ -5,7 +5,7 @@ ghost use Rattle.kb_request.specs.Values.{name_in, is_key, key_in, currency_in, 
 ghost use Rattle.kb_request.specs.Values.{whole_in, amount_in, invoice_in, bcd_in};
 
 use crate::words::{period_named, scope_named};
-use kb_codec::{Amount, BlockScope, InvoiceNo, MAX_AMOUNT};
+use kb_commands::{Amount, BlockScope, InvoiceNo, MAX_AMOUNT};
 use kb_days::{Bcd, Day, Name, Period, parse};
 use kb_money::Currency;
 use serde_json::Value;

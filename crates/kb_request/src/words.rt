@@ -2,7 +2,7 @@
 ghost use Rattle.std.specs.Prelude.{◌≡◌};
 ghost use Rattle.kb_request.specs.Values.{periods, period_named, scopes, scope_word, scope_named};
 
-use kb_codec::BlockScope;
+use kb_commands::BlockScope;
 use kb_days::Period;
 
 /// The billing period of a word.

@@ -12,7 +12,7 @@ use crate::values::{
     amount_in, bcd_in, currency_in, day_in, invoice_in, key_in, name_in, period_in, scope_in,
     whole_in,
 };
-use kb_codec::MAX_AMOUNT;
+use kb_commands::MAX_AMOUNT;
 use serde_json::Value;
 
 /// What is wrong with a member, in the order in which it is told.

@@ -3,11 +3,11 @@
 use crate::answers::says;
 use kb_account::{AccountView, InvoiceView, ItemView, PaymentView, SubscriptionView, View};
 use kb_base::Seq;
-use kb_catalog::PhaseType;
 use kb_credit::Line;
 use kb_days::{Day, Name, Reach};
 use kb_due::Entitlement;
 use kb_payment::{Kind, Status};
+use kb_plans::PhaseType;
 use kb_samples::{SampleFault, currency, day, name, reach};
 use kb_say::Said;
 use std::alloc::Global;

@@ -2,9 +2,10 @@
 
 use crate::compare::same;
 use kb_base::Seq;
-use kb_catalog::{Category, Phase, PhaseType, Plan, Price, Product, Rules, Version};
+use kb_catalog::Version;
 use kb_days::{Day, Name, Period, Span};
 use kb_money::{Currency, Minor};
+use kb_plans::{Category, Phase, PhaseType, Plan, Price, Product, Rules};
 use kb_samples::SampleFault;
 use std::alloc::Global;
 

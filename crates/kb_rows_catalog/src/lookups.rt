@@ -6,8 +6,9 @@ mod shop_rules;
 
 use crate::catalogs::first;
 use crate::compare::same;
-use kb_catalog::{Align, Catalog, Category, CreateAlign, PhaseType, Plan, PlanAsk};
+use kb_catalog::Catalog;
 use kb_days::Period;
+use kb_plans::{Align, Category, CreateAlign, PhaseType, Plan, PlanAsk};
 use kb_samples::{SHOP, SampleFault, catalog, name};
 use std::alloc::Global;
 use std::process::Abort;

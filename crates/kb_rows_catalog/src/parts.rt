@@ -2,8 +2,9 @@
 
 use crate::catalogs::first;
 use crate::compare::same;
-use kb_catalog::{Catalog, Phase, Version};
+use kb_catalog::{Catalog, Version};
 use kb_money::{Currency, Minor};
+use kb_plans::Phase;
 use kb_samples::{SHOP, SampleFault, catalog, name};
 use std::process::Abort;
 

@@ -2,7 +2,8 @@
 
 ghost use Rattle.std.specs.Prelude.{◌<◌, length};
 
-use kb_codec::{Command, decode, encode};
+use kb_codec::{decode, encode};
+use kb_commands::Command;
 use std::alloc::Global;
 use std::test::Fail;
 

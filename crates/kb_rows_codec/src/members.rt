@@ -1,7 +1,7 @@
 //! What is read is what the bytes say, member by member.
 
 use crate::bytes::read;
-use kb_codec::{BlockScope, Command};
+use kb_commands::{BlockScope, Command};
 use kb_days::Period;
 use std::test::Fail;
 

@@ -5,7 +5,7 @@ ghost use Rattle.kb_credit.specs.InvoiceRows.{balance_of};
 use crate::compare::same;
 use crate::facts::told;
 use kb_book::Unprepared;
-use kb_codec::{Amount, InvoiceNo, Pay, Refund, Settle};
+use kb_commands::{Amount, InvoiceNo, Pay, Refund, Settle};
 use kb_credit::{Invoices, Line};
 use kb_days::Day;
 use kb_edits::{invoice_due, pay, refund, settle};

@@ -3,7 +3,7 @@
 use crate::compare::same;
 use crate::facts::told;
 use kb_blocking::{Blocks, Flags};
-use kb_codec::{Block, BlockScope, Pause, Resume};
+use kb_commands::{Block, BlockScope, Pause, Resume};
 use kb_days::{Day, Name};
 use kb_edits::{block, pause, resume};
 use kb_samples::{Account, SHOP, SampleFault, Step, catalog, day, name};

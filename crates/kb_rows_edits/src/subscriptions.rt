@@ -3,7 +3,7 @@
 use crate::compare::same;
 use crate::facts::{facts, told};
 use kb_catalog::Catalog;
-use kb_codec::{Cancel, Change, Create, Uncancel};
+use kb_commands::{Cancel, Change, Create, Uncancel};
 use kb_days::{Day, Name, Period};
 use kb_due::choice_of;
 use kb_edits::{cancel, change, start, uncancel};

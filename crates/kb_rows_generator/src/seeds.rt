@@ -4,7 +4,8 @@ ghost use Rattle.kb_generator.specs.Seeds.{commands_of};
 
 use crate::compare::same;
 use kb_base::NoMemory;
-use kb_codec::{Command, encode};
+use kb_codec::encode;
+use kb_commands::Command;
 use kb_days::{Day, text};
 use kb_generator::Generator;
 use std::alloc::Global;

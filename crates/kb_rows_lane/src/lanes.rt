@@ -1,6 +1,7 @@
 //! Lanes in memory, and what they reply to a command.
 
-use kb_codec::{Command, decode};
+use kb_codec::decode;
+use kb_commands::Command;
 use kb_days::Day;
 use kb_disk::MemoryDisk;
 use kb_gateway::{ListGateway, Seen, Told};

@@ -6,7 +6,7 @@
 use crate::compare::same;
 use crate::lanes::{TestLane, again, count_of, empty, journal, performed, put, stuck_at, told};
 use kb_catalog_text::{read, read_overdue};
-use kb_codec::{Catalog, Command, OverdueRules};
+use kb_commands::{Catalog, Command, OverdueRules};
 use kb_days::Name;
 use kb_disk::MemoryDisk;
 use kb_journal::Journal;

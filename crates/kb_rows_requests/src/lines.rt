@@ -2,7 +2,8 @@
 
 use crate::compare::same;
 use kb_account::Query;
-use kb_codec::{Command, encode};
+use kb_codec::encode;
+use kb_commands::Command;
 use kb_days::{Day, Name, text};
 use kb_request::{Request, RequestFault, What, read_request};
 use kb_samples::SampleFault;

@@ -5,7 +5,7 @@ use Rattle.json.specs.Print.{print_from, escape_byte}
 use Rattle.kb_days.specs.Calendar.{month_of, day_of_month, month_after, month_start, month_length}
 use Rattle.kb_days.specs.Dates.{march}
 use Rattle.kb_days.specs.DateText.{date_text, civil_text}
-use Rattle.kb_catalog.specs.declared.words.PhaseType.TheVariants.{Evergreen}
+use Rattle.kb_plans.specs.declared.words.PhaseType.TheVariants.{Evergreen}
 use Rattle.kb_catalog_text.specs.declared.fault.TextFault.TheVariants as texts
 use Rattle.kb_credit.specs.declared.line.Line.TheVariants as lines
 use Rattle.kb_due.specs.declared.entitlement.Entitlement.TheVariants as states

@@ -1,7 +1,7 @@
 -- The words of an answer.
 use Rattle.std.specs.Prelude.{ℕ, List, codes, if◌then◌else◌}
-use Rattle.kb_catalog.specs.declared.words.PhaseType.{PhaseType}
-use Rattle.kb_catalog.specs.Words as catalog
+use Rattle.kb_plans.specs.declared.words.PhaseType.{PhaseType}
+use Rattle.kb_plans.specs.Words as catalog
 use Rattle.kb_credit.specs.declared.line.Line.{Line}
 use Rattle.kb_credit.specs.declared.line.Line.TheVariants as lines
 use Rattle.kb_due.specs.declared.entitlement.Entitlement.{Entitlement}

@@ -13,9 +13,9 @@ use crate::reply::text_of;
 use crate::words::{kind_word, line_word, phase_word, state_word, status_word};
 use kb_account::{AccountView, InvoiceView, ItemView, PaymentView, SubscriptionView, View};
 use kb_base::NoMemory;
-use kb_catalog::PhaseType;
 use kb_credit::Line;
 use kb_days::{Day, Name, Reach};
+use kb_plans::PhaseType;
 use std::alloc::Global;
 
 /// What is shown.

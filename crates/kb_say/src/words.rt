@@ -2,10 +2,10 @@
 ghost use Rattle.std.specs.Prelude.{◌≡◌};
 ghost use Rattle.kb_say.specs.Words.{line_word, kind_word, status_word, state_word, phase_word};
 
-use kb_catalog::PhaseType;
 use kb_credit::Line;
 use kb_due::Entitlement;
 use kb_payment::{Kind, Status};
+use kb_plans::PhaseType;
 
 /// The word of a kind of item.
 pub(crate) fn line_word(line: &Line) -> &'static str

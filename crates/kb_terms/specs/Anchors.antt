@@ -3,14 +3,14 @@ use Rattle.std.specs.Prelude.{ℕ, ◌≡◌, Option, Some, None, unwrap_or, opt
 use Rattle.std.specs.Prelude.{refl}
 use Rattle.kb_days.specs.Dates.{march}
 use Rattle.kb_catalog.specs.declared.version.Version.{Version}
-use Rattle.kb_catalog.specs.declared.version.ChangeCase.{ChangeCase}
-use Rattle.kb_catalog.specs.declared.version.CreateCase.{CreateCase}
-use Rattle.kb_catalog.specs.declared.words.Align.{Align}
-use Rattle.kb_catalog.specs.declared.words.Align.TheVariants.{StartOfBundle, StartOfSubscription}
-use Rattle.kb_catalog.specs.declared.words.Align.TheVariants.{ChangeOfPlan}
-use Rattle.kb_catalog.specs.declared.words.CreateAlign.{CreateAlign}
-use Rattle.kb_catalog.specs.Alignments.{align_of}
-use Rattle.kb_catalog.specs.LookUp.{first_match, fits_change, fits_create}
+use Rattle.kb_plans.specs.declared.rules.ChangeCase.{ChangeCase}
+use Rattle.kb_plans.specs.declared.rules.CreateCase.{CreateCase}
+use Rattle.kb_plans.specs.declared.words.Align.{Align}
+use Rattle.kb_plans.specs.declared.words.Align.TheVariants.{StartOfBundle, StartOfSubscription}
+use Rattle.kb_plans.specs.declared.words.Align.TheVariants.{ChangeOfPlan}
+use Rattle.kb_plans.specs.declared.words.CreateAlign.{CreateAlign}
+use Rattle.kb_plans.specs.Alignments.{align_of}
+use Rattle.kb_plans.specs.Cases.{first_match, fits_change, fits_create}
 use Rattle.kb_timeline.specs.declared.entry.Entry.{Entry}
 use Rattle.kb_timeline.specs.declared.subscription.Subscription.{Subscription}
 use Rattle.kb_timeline.specs.TimelineEdits.{lead_of}

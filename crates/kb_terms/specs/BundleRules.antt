@@ -1,9 +1,9 @@
 -- What the rules of bundles allow: who leads a bundle, who joins it, and what a change may not do.
 use Rattle.std.specs.Prelude.{ℕ, Bool, true, false, not, ◌&&◌, ◌||◌, List, Option, Some, None, is_some}
 use Rattle.std.specs.Prelude.{option_and_then}
-use Rattle.kb_catalog.specs.declared.words.Category.{Category}
-use Rattle.kb_catalog.specs.Words.{same_category}
-use Rattle.kb_catalog.specs.Products.{is_base, is_add_on, has_name}
+use Rattle.kb_plans.specs.declared.words.Category.{Category}
+use Rattle.kb_plans.specs.Words.{same_category}
+use Rattle.kb_plans.specs.Products.{is_base, is_add_on, has_name}
 use Rattle.kb_timeline.specs.declared.subscription.Subscription.{Subscription}
 use Rattle.kb_due.specs.Facts.{FactsValue}
 use Rattle.kb_due.specs.Governing.{Choice, Governing}

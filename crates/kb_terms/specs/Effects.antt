@@ -2,12 +2,12 @@
 use Rattle.std.specs.Prelude.{ℕ, ◌≡◌, max, Option, Some, None, unwrap_or, option_and_then, refl}
 use Rattle.kb_days.specs.Dates.{march, april}
 use Rattle.kb_catalog.specs.declared.version.Version.{Version}
-use Rattle.kb_catalog.specs.declared.version.ChangeCase.{ChangeCase}
-use Rattle.kb_catalog.specs.declared.version.PlanCase.{PlanCase}
-use Rattle.kb_catalog.specs.declared.words.Policy.{Policy}
-use Rattle.kb_catalog.specs.declared.words.Policy.TheVariants.{Immediate, EndOfTerm, Illegal}
-use Rattle.kb_catalog.specs.declared.ask.ChangeAsk.{ChangeAsk}
-use Rattle.kb_catalog.specs.LookUp.{first_match, fits_change, fits_plan}
+use Rattle.kb_plans.specs.declared.rules.ChangeCase.{ChangeCase}
+use Rattle.kb_plans.specs.declared.rules.PlanCase.{PlanCase}
+use Rattle.kb_plans.specs.declared.words.Policy.{Policy}
+use Rattle.kb_plans.specs.declared.words.Policy.TheVariants.{Immediate, EndOfTerm, Illegal}
+use Rattle.kb_plans.specs.declared.ask.ChangeAsk.{ChangeAsk}
+use Rattle.kb_plans.specs.Cases.{first_match, fits_change, fits_plan}
 use Rattle.kb_due.specs.Facts.{FactsValue}
 use Rattle.kb_due.specs.Governing.{Governing}
 use Rattle.kb_due.specs.DueDays.{charged_through}

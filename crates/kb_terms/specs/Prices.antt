@@ -3,11 +3,11 @@ use Rattle.std.specs.Prelude.{ℕ, ◌≡◌, Bool, true, false, not, ◌&&◌, 
 use Rattle.std.specs.Prelude.{None, is_some, refl}
 use Rattle.std.specs.List.{list_any}
 use Rattle.kb_catalog.specs.declared.version.Version.{Version}
-use Rattle.kb_catalog.specs.declared.version.Plan.{Plan}
-use Rattle.kb_catalog.specs.declared.version.Phase.{Phase}
-use Rattle.kb_catalog.specs.declared.version.Price.{Price}
-use Rattle.kb_catalog.specs.Products.{is_empty}
-use Rattle.kb_catalog.specs.Plans.{price_in}
+use Rattle.kb_plans.specs.declared.plan.Plan.{Plan}
+use Rattle.kb_plans.specs.declared.phase.Phase.{Phase}
+use Rattle.kb_plans.specs.declared.phase.Price.{Price}
+use Rattle.kb_plans.specs.Products.{is_empty}
+use Rattle.kb_plans.specs.Plans.{price_in}
 use Rattle.kb_timeline.specs.declared.entry.PlanRef.{PlanRef}
 use Rattle.kb_due.specs.Governing.{Choice, choice_of}
 

@@ -3,9 +3,9 @@ use Rattle.std.specs.Prelude.{ℕ, ◌≡◌, List, Option, Some, None, unwrap_o
 use Rattle.std.specs.Prelude.{slice_get, refl}
 use Rattle.kb_days.specs.Dates.{march}
 use Rattle.kb_catalog.specs.declared.version.Version.{Version}
-use Rattle.kb_catalog.specs.declared.version.Product.{Product}
-use Rattle.kb_catalog.specs.declared.words.Category.{Category}
-use Rattle.kb_catalog.specs.declared.ask.PlanAsk.{PlanAsk}
+use Rattle.kb_plans.specs.declared.product.Product.{Product}
+use Rattle.kb_plans.specs.declared.words.Category.{Category}
+use Rattle.kb_plans.specs.declared.ask.PlanAsk.{PlanAsk}
 use Rattle.kb_catalog.specs.Products.{product_named}
 use Rattle.kb_catalog.specs.LookUp.{version_at, plan_at}
 use Rattle.kb_timeline.specs.declared.entry.PlanRef.{PlanRef}

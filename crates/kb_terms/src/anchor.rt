@@ -4,9 +4,9 @@ ghost use Rattle.kb_terms.specs.Anchors as told;
 
 use crate::policy::change_ask;
 use crate::{Wish, governing_of, version_on, wish_ask};
-use kb_catalog::Align;
 use kb_days::Day;
 use kb_due::Facts;
+use kb_plans::Align;
 use kb_timeline::Subscription;
 
 /// The anchor of a start on a day, in a bundle that may not be there yet: none where there is no version.

@@ -4,9 +4,9 @@ ghost use Rattle.kb_terms.specs.BundleRules as told;
 ghost use Rattle.kb_terms.specs.Anchors as leads;
 
 use crate::{category_in, category_on, governing_ask, governing_of};
-use kb_catalog::Category;
 use kb_days::{Day, Name, Reach};
 use kb_due::{Choice, Facts, choice_on, is_available, live};
+use kb_plans::Category;
 
 /// Whether a subscription of a product may start in a bundle on a day: as its lead if the bundle isn't there
 /// yet, and else as an add-on that its lead offers.

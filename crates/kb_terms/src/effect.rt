@@ -4,10 +4,10 @@ ghost use Rattle.kb_terms.specs.Effects as told;
 
 use crate::{Wish, cancel_policy, change_policy};
 use kb_base::NoMemory;
-use kb_catalog::Policy;
 use kb_days::{Day, Reach};
 use kb_due::Facts;
 use kb_events::{charged_through, pieces};
+use kb_plans::Policy;
 use std::alloc::Global;
 
 /// The day of effect of a change that is asked for on a day: that day, or the day until which the

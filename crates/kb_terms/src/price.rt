@@ -2,9 +2,10 @@
 ghost use Rattle.std.specs.Prelude.{◌≡◌};
 ghost use Rattle.kb_terms.specs.Prices.{phase_lacks, lacks_price, refers_to_lacking};
 
-use kb_catalog::{Catalog, Phase, Plan};
+use kb_catalog::Catalog;
 use kb_due::choice_of;
 use kb_money::Currency;
+use kb_plans::{Phase, Plan};
 use kb_timeline::PlanRef;
 
 /// Whether a plan that is referred to tells a price, but not in a currency.

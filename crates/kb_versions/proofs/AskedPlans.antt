@@ -7,9 +7,10 @@ use Rattle.std.specs.List.{position_from}
 use Rattle.std.proofs.lemmas.Option.{none-some}
 use Rattle.kb_days.specs.declared.period.Period.{Period}
 use Rattle.kb_catalog.specs.declared.version.Version.{Version}
-use Rattle.kb_catalog.specs.declared.version.Plan.{Plan}
-use Rattle.kb_catalog.specs.declared.version.PriceList.{PriceList}
-use Rattle.kb_catalog.specs.LookUp.{version_at, is_asked, names_sold, both_places, plan_at}
+use Rattle.kb_plans.specs.declared.plan.Plan.{Plan}
+use Rattle.kb_plans.specs.declared.price_list.PriceList.{PriceList}
+use Rattle.kb_catalog.specs.LookUp.{version_at, names_sold, both_places, plan_at}
+use Rattle.kb_plans.specs.Plans.{is_asked}
 use Rattle.kb_timeline.specs.declared.entry.PlanRef.{PlanRef}
 use Rattle.kb_due.specs.Governing.{choice_in, choice_of}
 use Rattle.kb_terms.specs.declared.wish.Wish.{Wish}

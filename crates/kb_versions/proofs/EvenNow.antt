@@ -8,8 +8,8 @@ use Rattle.kb_days.specs.Calendar.{first_day, charged_days}
 use Rattle.kb_catalog.specs.declared.version.Version.{Version}
 use Rattle.kb_credit.specs.declared.line.Line.{Line}
 use Rattle.kb_credit.specs.InvoiceRows.{InvoicesValue, charged, credit, unpaid}
-use Rattle.kb_codec.specs.declared.command.Command.{Command}
-use Rattle.kb_codec.specs.declared.command.Command.TheVariants as kinds
+use Rattle.kb_commands.specs.declared.command.Command.{Command}
+use Rattle.kb_commands.specs.declared.command.Command.TheVariants as kinds
 use Rattle.kb_book.specs.Worlds.{WorldValue}
 use Rattle.kb_book.specs.Issues.{Issue}
 use Rattle.kb_book.specs.Books.{BookValue}

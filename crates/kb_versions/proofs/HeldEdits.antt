@@ -9,10 +9,10 @@ use Rattle.kb_timeline.specs.declared.subscription.Subscription.{Subscription}
 use Rattle.kb_timeline.specs.EntryDays.{kept_by_change}
 use Rattle.kb_timeline.specs.SubscriptionEdits.{change_of, cancel_of, uncancel_of}
 use Rattle.kb_timeline.specs.TimelineEdits.{TimelineValue, edited_at, subscription_named}
-use Rattle.kb_codec.specs.declared.command.Command.{Command}
-use Rattle.kb_codec.specs.declared.command.Command.TheVariants as kinds
-use Rattle.kb_codec.specs.declared.command.Create.{Create}
-use Rattle.kb_codec.specs.declared.command.Change.{Change}
+use Rattle.kb_commands.specs.declared.command.Command.{Command}
+use Rattle.kb_commands.specs.declared.command.Command.TheVariants as kinds
+use Rattle.kb_commands.specs.declared.command.Create.{Create}
+use Rattle.kb_commands.specs.declared.command.Change.{Change}
 use Rattle.kb_due.specs.Facts.{FactsValue, subscription_at}
 use Rattle.kb_terms.specs.Wishes.{asked_day, plan_asked}
 use Rattle.kb_terms.specs.Effects.{change_effect}

@@ -3,8 +3,8 @@ use Rattle.std.specs.Prelude.{ℕ, ◌≡◌, false, List, [], ◌∷◌, Option
 use Rattle.kb_days.specs.Dates.{march}
 use Rattle.kb_credit.specs.InvoiceRows.{credit}
 use Rattle.kb_payment.specs.declared.attempt.Status.TheVariants.{Success}
-use Rattle.kb_codec.specs.declared.command.Command.{Command}
-use Rattle.kb_codec.specs.declared.command.Command.TheVariants as kinds
+use Rattle.kb_commands.specs.declared.command.Command.{Command}
+use Rattle.kb_commands.specs.declared.command.Command.TheVariants as kinds
 use Rattle.kb_book.specs.Books.{BookValue}
 use Rattle.kb_book.specs.Dues.{charged_by}
 use Rattle.kb_book.specs.Steps.{step}

@@ -4,8 +4,8 @@ use Rattle.std.proofs.Common.{refl, sym, ap, subst}
 use Rattle.kb_base.specs.declared.fault.Failed.{Failed}
 use Rattle.kb_gateway.specs.declared.told.Told.{Told}
 use Rattle.kb_gateway.specs.declared.told.Told.TheVariants as told
-use Rattle.kb_codec.specs.declared.command.Command.{Command}
-use Rattle.kb_codec.specs.declared.command.Command.TheVariants as kinds
+use Rattle.kb_commands.specs.declared.command.Command.{Command}
+use Rattle.kb_commands.specs.declared.command.Command.TheVariants as kinds
 use Rattle.kb_payment.specs.declared.attempt.Status.TheVariants as status
 use Rattle.kb_journal.specs.declared.fault.AppendFault.{AppendFault}
 use Rattle.kb_journal.specs.declared.fault.AppendFault.TheVariants as fault

@@ -10,8 +10,8 @@ use Rattle.kb_gateway.specs.declared.told.Told.{Told}
 use Rattle.kb_gateway.specs.declared.told.Told.TheVariants as told
 use Rattle.kb_gateway.specs.Answers.{status_of}
 use Rattle.kb_gateway.specs.GatewayIds.{uuid_of, payment_text}
-use Rattle.kb_codec.specs.declared.command.Command.{Command}
-use Rattle.kb_codec.specs.declared.command.Command.TheVariants as kinds
+use Rattle.kb_commands.specs.declared.command.Command.{Command}
+use Rattle.kb_commands.specs.declared.command.Command.TheVariants as kinds
 use Rattle.kb_book.specs.Books.{BookValue}
 use Rattle.kb_machine.specs.Machines.{MachineValue, book_of}
 

@@ -1,8 +1,8 @@
 -- What an accepted command leaves a lane to do.
 use Rattle.std.specs.Prelude.{◌≡◌, List, [], ◌∷◌, ◌++◌, codes, refl, None}
 use Rattle.kb_days.specs.Dates.{march}
-use Rattle.kb_codec.specs.declared.command.Command.{Command}
-use Rattle.kb_codec.specs.declared.command.Command.TheVariants as kinds
+use Rattle.kb_commands.specs.declared.command.Command.{Command}
+use Rattle.kb_commands.specs.declared.command.Command.TheVariants as kinds
 use Rattle.kb_book.specs.Edits.{auto_key}
 use Rattle.kb_log.specs.Entries.{Entry}
 use Rattle.kb_machine.specs.Machines.{account_of}

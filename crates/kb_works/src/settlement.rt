@@ -7,7 +7,7 @@ ghost use Rattle.kb_works.specs.Private.Settlements.{IsReady, AreReady, AddsRead
 ghost use Rattle.kb_works.specs.Private.Settlements.{IsChosen, told_place};
 
 use kb_base::{Failed, NoMemory};
-use kb_codec::{Command, Settle};
+use kb_commands::{Command, Settle};
 use kb_days::{Day, Name};
 use kb_gateway::Told;
 use kb_log::payload_of;

@@ -6,7 +6,7 @@ ghost use Rattle.kb_works.specs.Works.{ask_of, check_of};
 use crate::Work;
 use kb_account::auto_key;
 use kb_base::NoMemory;
-use kb_codec::Command;
+use kb_commands::Command;
 use kb_days::Day;
 use kb_machine::account_of;
 use std::alloc::Global;

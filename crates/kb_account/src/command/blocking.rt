@@ -8,7 +8,7 @@ ghost use Rattle.kb_laws.specs.SoundBooks.{IsBook};
 
 use crate::{Begun, State, World};
 use kb_book::{Refusal, Unprepared};
-use kb_codec::{Block, Command, Overdue, Pause, Resume};
+use kb_commands::{Block, Command, Overdue, Pause, Resume};
 use kb_days::Day;
 use kb_edits as edits;
 use std::alloc::Global;

@@ -8,7 +8,7 @@ ghost use Rattle.kb_laws.specs.SoundBooks.{IsBook};
 
 use crate::{Begun, State, World, later};
 use kb_book::{Refusal, Unprepared};
-use kb_codec::{Autopay, Bill, Charge, Command, Credit};
+use kb_commands::{Autopay, Bill, Charge, Command, Credit};
 use kb_days::Day;
 use kb_terms::asked_day;
 

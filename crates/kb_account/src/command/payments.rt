@@ -11,7 +11,7 @@ ghost use Rattle.kb_laws.specs.SoundBooks.{IsBook};
 
 use crate::{Begun, Move, State, World, auto_key, move_on};
 use kb_book::{Refusal, Unprepared};
-use kb_codec::{Auto, Chargeback, Command, InvoiceNo, Pay, Refund, Settle};
+use kb_commands::{Auto, Chargeback, Command, InvoiceNo, Pay, Refund, Settle};
 use kb_days::{Day, Name};
 use kb_edits as edits;
 use kb_payment::{Attempt, Payments};

@@ -8,7 +8,7 @@ ghost use Rattle.kb_laws.specs.SoundBooks.{IsBook};
 
 use crate::{Begun, State, World};
 use kb_book::Unprepared;
-use kb_codec::{Cancel, Change, Command, Create, Uncancel};
+use kb_commands::{Cancel, Change, Command, Create, Uncancel};
 use kb_days::Day;
 use kb_edits as edits;
 use std::alloc::Global;

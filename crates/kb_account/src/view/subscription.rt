@@ -8,10 +8,10 @@ ghost use Rattle.kb_account.specs.Private.States.{value_of};
 use crate::view::states::bundle_name;
 use crate::{State, World};
 use kb_base::NoMemory;
-use kb_catalog::PhaseType;
 use kb_days::{Day, Name, Reach};
 use kb_due::{Entitlement, Facts, Governing, governing_on, live, state_on};
 use kb_edits::place_of;
+use kb_plans::PhaseType;
 use kb_terms::through_of;
 use std::alloc::Global;
 

@@ -4,15 +4,15 @@ ghost use Rattle.std.specs.List.{list_any};
 ghost use Rattle.std.specs.Option.{option_copied};
 ghost use Rattle.kb_catalog.specs.Products.{has_product};
 ghost use Rattle.kb_catalog.specs.Lists.{has_list};
-ghost use Rattle.kb_catalog.specs.Cases.{asks_nothing, asks_nothing_to, is_open, misses, names_wrongly};
-ghost use Rattle.kb_catalog.specs.Cases.{names_wrongly_to, case_names_wrongly, ends_open, decides_wrongly};
+ghost use Rattle.kb_catalog.specs.Cases.{misses, names_wrongly, names_wrongly_to, case_names_wrongly};
+ghost use Rattle.kb_catalog.specs.Cases.{decides_wrongly};
 ghost use Rattle.kb_catalog.specs.VersionRules.{rule_list_wrong};
 
-use crate::case::Case;
+use crate::Version;
 use crate::check::lists::has_list;
 use crate::check::products::has_product;
-use crate::{PlanCondition, Version};
 use kb_days::Name;
+use kb_plans::{Case, PlanCondition, ends_open};
 
 /// Whether the rule list at a place is wrong: change policy, change alignment, cancel policy, create
 /// alignment, billing alignment.
@@ -38,23 +38,6 @@ fn decides_wrongly<C: Case>(version: &Version, cases: &[C]) -> bool
     !ends_open(cases) || some_names_wrongly(version, cases)
 }
 
-/// Whether there is a case, and the last one has no condition.
-fn ends_open<C: Case>(cases: &[C]) -> bool
-    ensures { result ≡ ends_open C.asks cases.now }
-{
-    match cases.split_last() {
-        None => false,
-        Some((last, _)) => is_open(last),
-    }
-}
-
-/// Whether a case has no condition.
-fn is_open<C: Case>(case: &C) -> bool
-    ensures { result ≡ is_open (C.asks case.now) }
-{
-    asks_nothing(case.from()) && case.phase().is_none() && asks_nothing_to(case.to())
-}
-
 /// Whether one of these cases names a product or a list that isn't there.
 fn some_names_wrongly<C: Case>(version: &Version, cases: &[C]) -> bool
     ensures { result ≡ list_any (λ case. case_names_wrongly version.now (C.asks case)) cases.now }
@@ -69,16 +52,6 @@ fn case_names_wrongly<C: Case>(version: &Version, case: &C) -> bool
     names_wrongly(version, case.from()) || names_wrongly_to(version, case.to())
 }
 
-/// Whether nothing is asked of the plan asked for.
-fn asks_nothing_to(condition: Option<&PlanCondition>) -> bool
-    ensures { result ≡ asks_nothing_to (option_copied condition.entry) }
-{
-    match condition {
-        None => true,
-        Some(condition) => asks_nothing(condition),
-    }
-}
-
 /// Whether the condition on the plan asked for names a product or a list that isn't there.
 fn names_wrongly_to(version: &Version, condition: Option<&PlanCondition>) -> bool
     ensures { result ≡ names_wrongly_to version.now (option_copied condition.entry) }
@@ -87,16 +60,6 @@ fn names_wrongly_to(version: &Version, condition: Option<&PlanCondition>) -> boo
         None => false,
         Some(condition) => names_wrongly(version, condition),
     }
-}
-
-/// Whether a plan condition asks nothing.
-fn asks_nothing(condition: &PlanCondition) -> bool
-    ensures { result ≡ asks_nothing condition.now }
-{
-    condition.product.is_none()
-        && condition.category.is_none()
-        && condition.period.is_none()
-        && condition.list.is_none()
 }
 
 /// Whether a plan condition names a product or a list that isn't there.

@@ -2,17 +2,15 @@
 ghost use Rattle.std.specs.Prelude.{◌≡◌, ◌==◌, ◌&&◌, ◌||◌, bytes_eq, length, not};
 ghost use Rattle.std.specs.List.{list_any};
 ghost use Rattle.kb_base.specs.Offenders.{passes_at, repeats_at};
-ghost use Rattle.kb_catalog.specs.declared.version.Plan.{Plan};
-ghost use Rattle.kb_catalog.specs.declared.version.PriceList.{PriceList};
-ghost use Rattle.kb_catalog.specs.Plans.{has_plan};
-ghost use Rattle.kb_catalog.specs.Lists.{agree, agrees_with_one, has_agreeing, sells_wrongly, has_list};
+ghost use Rattle.kb_plans.specs.declared.plan.Plan.{Plan};
+ghost use Rattle.kb_plans.specs.declared.price_list.PriceList.{PriceList};
+ghost use Rattle.kb_catalog.specs.Lists.{has_plan, agrees_with_one, has_agreeing, sells_wrongly, has_list};
 ghost use Rattle.kb_catalog.specs.Lists.{default_list};
 
-use crate::case::same_period;
-use crate::check::has_name;
+use crate::Version;
 use crate::check::plans::has_plan;
-use crate::{Plan, PriceList, Version};
 use kb_days::Name;
+use kb_plans::{Plan, PriceList, has_name};
 
 /// Whether the list at a place has a name that stands earlier, or sells wrongly, or whether, behind the
 /// last list, none is named DEFAULT.
@@ -119,12 +117,5 @@ fn agrees_with_one(version: &Version, plan: &Plan, names: &[Name]) -> bool
     let plans = version.plans.as_slice();
     plans
         .iter()
-        .any(|other| agree(plan, other) && has_name(names, &other.name))
-}
-
-/// Whether two plans agree in product and billing period.
-fn agree(plan: &Plan, other: &Plan) -> bool
-    ensures { result ≡ agree plan.now other.now }
-{
-    plan.product == other.product && same_period(plan.period(), other.period())
+        .any(|other| plan.agrees(other) && has_name(names, &other.name))
 }

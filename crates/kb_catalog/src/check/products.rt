@@ -2,20 +2,21 @@
 ghost use Rattle.std.specs.Prelude.{◌≡◌, ◌||◌, bytes_eq, not};
 ghost use Rattle.std.specs.List.{list_any};
 ghost use Rattle.kb_base.specs.Offenders.{passes_at, repeats_at};
-ghost use Rattle.kb_catalog.specs.declared.version.Product.{Product};
-ghost use Rattle.kb_catalog.specs.Products.{is_empty, has_name, has_product, is_base, is_add_on, has_add_on};
-ghost use Rattle.kb_catalog.specs.Products.{listed, lists_wrongly, lists_twice};
+ghost use Rattle.kb_plans.specs.declared.product.Product.{Product};
+ghost use Rattle.kb_plans.specs.Products.{is_empty, is_add_on, lists_twice};
+ghost use Rattle.kb_catalog.specs.Products.{has_product, has_add_on, lists_wrongly};
 
-use crate::{Category, Product, Version};
+use crate::Version;
 use kb_days::Name;
 use kb_money::Currency;
+use kb_plans::{Product, has_currency};
 
 /// Whether there is no currency, or the one at a place stands earlier.
 pub(super) fn currency_breaks(version: &Version, place: usize) -> bool
     ensures { result ≡ (is_empty version.now.currencies || repeats_at bytes_eq version.now.currencies place) }
 {
     let currencies = version.currencies.as_slice();
-    is_empty(currencies) || currency_repeats(currencies, place)
+    currencies.is_empty() || currency_repeats(currencies, place)
 }
 
 /// Whether the currency at a place stands earlier.
@@ -26,13 +27,6 @@ fn currency_repeats(currencies: &[Currency], place: usize) -> bool
         None => false,
         Some(currency) => has_currency(&currencies[..place], *currency),
     }
-}
-
-/// Whether a currency is among these.
-pub(super) fn has_currency(currencies: &[Currency], currency: Currency) -> bool
-    ensures { result ≡ list_any (bytes_eq currency) currencies.now }
-{
-    currencies.iter().any(|other| currency == *other)
 }
 
 /// Whether the name of the product at a place stands earlier.
@@ -78,23 +72,16 @@ pub(super) fn lists_twice_at(version: &Version, place: usize) -> bool
     let products = version.products.as_slice();
     products
         .get(place)
-        .is_some_and(|product| lists_twice(product))
+        .is_some_and(|product| product.lists_twice())
 }
 
 /// Whether a product lists add-ons and isn't a base product, or lists what is no add-on product.
 fn lists_wrongly(version: &Version, product: &Product) -> bool
     ensures { result ≡ lists_wrongly version.now product.now }
 {
-    (!is_base(product.category) && lists_some(product))
+    (!product.category.is_base() && product.lists_some())
         || misses_add_on(version, product.available.as_slice())
         || misses_add_on(version, product.included.as_slice())
-}
-
-/// Whether a product lists an add-on.
-fn lists_some(product: &Product) -> bool
-    ensures { result ≡ not (is_empty (listed product.now)) }
-{
-    !is_empty(product.available.as_slice()) || !is_empty(product.included.as_slice())
 }
 
 /// Whether one of these names is of no add-on product.
@@ -109,43 +96,5 @@ fn has_add_on(version: &Version, name: &Name) -> bool
     ensures { result ≡ has_add_on version.now name.now }
 {
     let products = version.products.as_slice();
-    products.iter().any(|product| *name == product.name && is_add_on(product.category))
-}
-
-/// Whether a name is both available and included in a product.
-fn lists_twice(product: &Product) -> bool
-    ensures { result ≡ lists_twice product.now }
-{
-    let included = product.included.as_slice();
-    product
-        .available
-        .as_slice()
-        .iter()
-        .any(|name| has_name(included, name))
-}
-
-/// Whether a name is among some names.
-pub(crate) fn has_name(names: &[Name], name: &Name) -> bool
-    ensures { result ≡ has_name names.now name.now }
-{
-    names.iter().any(|other| *name == *other)
-}
-
-fn is_base(category: Category) -> bool
-    ensures { result ≡ is_base category }
-{
-    matches!(category, Category::Base)
-}
-
-fn is_add_on(category: Category) -> bool
-    ensures { result ≡ is_add_on category }
-{
-    matches!(category, Category::AddOn)
-}
-
-/// Whether a list has no member.
-pub(super) fn is_empty<T>(members: &[T]) -> bool
-    ensures { result ≡ is_empty members.now }
-{
-    matches!(members, [])
+    products.iter().any(|product| *name == product.name && product.category.is_add_on())
 }

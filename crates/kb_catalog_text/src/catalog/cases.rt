@@ -1,35 +1,32 @@
 //! The cases of the five rule lists.
 ghost use Rattle.toml.specs.View.{table_view};
-ghost use Rattle.kb_catalog_text.specs.Reads.{IsRead, read_table};
+ghost use Rattle.kb_tables.specs.Reads.{IsRead};
 ghost use Rattle.kb_catalog_text.specs.CatalogText.{change_case_in, plan_case_in, change_policy_in};
 ghost use Rattle.kb_catalog_text.specs.CatalogText.{change_alignment_in, cancel_in, create_in, billing_in};
 
 use crate::catalog::condition::{from_conditions, plan_conditions, to_conditions};
-use crate::from_value::{FromValue, optional, required, table_of};
-use crate::key_fault::KeyFault;
-use crate::keys::{Among, known_keys};
-use kb_catalog::{
+use crate::entries::Entry;
+use kb_plans::{
     BillingCase, CancelCase, ChangeAlignmentCase, ChangeCase, ChangePolicyCase, CreateCase,
     PlanCase,
 };
+use kb_tables::{Among, FromValue, KeyFault, known_keys, optional, required};
 use std::alloc::Global;
-use toml::{Table, Value};
+use toml::Table;
 
-impl FromValue for ChangePolicyCase {
-    ghost reads = { read_table change_policy_in };
+impl Entry for ChangePolicyCase {
+    ghost says = { change_policy_in };
 
-    #[tactic(auto, using(crate::proofs::ReadSteps::inner))]
-    fn read(alloc: Global, key: &str, value: &Value) -> Result<ChangePolicyCase, KeyFault> {
-        read_change_case(alloc, table_of(alloc, key, value)?, "policy")
+    fn entry(alloc: Global, table: &Table) -> Result<ChangePolicyCase, KeyFault> {
+        read_change_case(alloc, table, "policy")
     }
 }
 
-impl FromValue for ChangeAlignmentCase {
-    ghost reads = { read_table change_alignment_in };
+impl Entry for ChangeAlignmentCase {
+    ghost says = { change_alignment_in };
 
-    #[tactic(auto, using(crate::proofs::ReadSteps::inner))]
-    fn read(alloc: Global, key: &str, value: &Value) -> Result<ChangeAlignmentCase, KeyFault> {
-        read_change_case(alloc, table_of(alloc, key, value)?, "alignment")
+    fn entry(alloc: Global, table: &Table) -> Result<ChangeAlignmentCase, KeyFault> {
+        read_change_case(alloc, table, "alignment")
     }
 }
 
@@ -68,21 +65,19 @@ fn read_change_case<T: FromValue>(
     })
 }
 
-impl FromValue for CancelCase {
-    ghost reads = { read_table cancel_in };
+impl Entry for CancelCase {
+    ghost says = { cancel_in };
 
-    #[tactic(auto, using(crate::proofs::ReadSteps::inner))]
-    fn read(alloc: Global, key: &str, value: &Value) -> Result<CancelCase, KeyFault> {
-        read_plan_case(alloc, table_of(alloc, key, value)?, "policy")
+    fn entry(alloc: Global, table: &Table) -> Result<CancelCase, KeyFault> {
+        read_plan_case(alloc, table, "policy")
     }
 }
 
-impl FromValue for BillingCase {
-    ghost reads = { read_table billing_in };
+impl Entry for BillingCase {
+    ghost says = { billing_in };
 
-    #[tactic(auto, using(crate::proofs::ReadSteps::inner))]
-    fn read(alloc: Global, key: &str, value: &Value) -> Result<BillingCase, KeyFault> {
-        read_plan_case(alloc, table_of(alloc, key, value)?, "alignment")
+    fn entry(alloc: Global, table: &Table) -> Result<BillingCase, KeyFault> {
+        read_plan_case(alloc, table, "alignment")
     }
 }
 
@@ -108,12 +103,11 @@ fn read_plan_case<T: FromValue>(
     })
 }
 
-impl FromValue for CreateCase {
-    ghost reads = { read_table create_in };
+impl Entry for CreateCase {
+    ghost says = { create_in };
 
-    #[tactic(auto, using(crate::proofs::ReadSteps::inner))]
-    fn read(alloc: Global, key: &str, value: &Value) -> Result<CreateCase, KeyFault> {
-        read_create(alloc, table_of(alloc, key, value)?)
+    fn entry(alloc: Global, table: &Table) -> Result<CreateCase, KeyFault> {
+        read_create(alloc, table)
     }
 }
 

@@ -1,12 +1,11 @@
 //! The conditions of a case on a plan.
 ghost use Rattle.toml.specs.View.{table_view};
-ghost use Rattle.kb_catalog_text.specs.Reads.{IsRead};
+ghost use Rattle.kb_tables.specs.Reads.{IsRead};
 ghost use Rattle.kb_catalog_text.specs.CatalogText.{condition_in, plan_conditions_in, from_conditions_in};
 ghost use Rattle.kb_catalog_text.specs.CatalogText.{to_conditions_in};
 
-use crate::from_value::optional;
-use crate::key_fault::KeyFault;
-use kb_catalog::PlanCondition;
+use kb_plans::PlanCondition;
+use kb_tables::{KeyFault, optional};
 use std::alloc::Global;
 use toml::Table;
 

@@ -1,21 +1,19 @@
 //! A price list.
 ghost use Rattle.toml.specs.View.{table_view};
-ghost use Rattle.kb_catalog_text.specs.Reads.{IsRead, read_table};
+ghost use Rattle.kb_tables.specs.Reads.{IsRead};
 ghost use Rattle.kb_catalog_text.specs.CatalogText.{list_in};
 
-use crate::from_value::{FromValue, required, table_of};
-use crate::key_fault::KeyFault;
-use crate::keys::{Among, known_keys};
-use kb_catalog::PriceList;
+use crate::entries::Entry;
+use kb_plans::PriceList;
+use kb_tables::{Among, KeyFault, known_keys, required};
 use std::alloc::Global;
-use toml::{Table, Value};
+use toml::Table;
 
-impl FromValue for PriceList {
-    ghost reads = { read_table list_in };
+impl Entry for PriceList {
+    ghost says = { list_in };
 
-    #[tactic(auto, using(crate::proofs::ReadSteps::inner))]
-    fn read(alloc: Global, key: &str, value: &Value) -> Result<PriceList, KeyFault> {
-        read_list(alloc, table_of(alloc, key, value)?)
+    fn entry(alloc: Global, table: &Table) -> Result<PriceList, KeyFault> {
+        read_list(alloc, table)
     }
 }
 

@@ -1,26 +1,23 @@
 //! A phase of a plan.
 ghost use Rattle.std.specs.Prelude.{◌≡◌, Ok};
 ghost use Rattle.toml.specs.View.{table_view, view};
-ghost use Rattle.kb_catalog_text.specs.Reads.{IsRead, read_table, keys_read, is_among};
+ghost use Rattle.kb_tables.specs.Reads.{IsRead, keys_read, is_among};
 ghost use Rattle.kb_catalog_text.specs.CatalogText.{phase_in, phase_keys, is_unlimited_in, is_word, span_in};
 ghost use Rattle.kb_catalog_text.specs.CatalogText.{length_in, is_counted, span_of};
 
 use crate::catalog::prices::prices_at;
-use crate::from_value::{FromValue, read_or, required, table_of, value_at};
-use crate::key_fault::KeyFault;
-use crate::keys::{Among, known_keys};
-use crate::span_unit::SpanUnit;
-use kb_catalog::Phase;
+use crate::entries::Entry;
 use kb_days::{Count, Period, Span};
+use kb_plans::Phase;
+use kb_tables::{Among, KeyFault, SpanUnit, known_keys, read_or, required, value_at};
 use std::alloc::Global;
 use toml::{Table, Value};
 
-impl FromValue for Phase {
-    ghost reads = { read_table phase_in };
+impl Entry for Phase {
+    ghost says = { phase_in };
 
-    #[tactic(auto, using(crate::proofs::ReadSteps::inner))]
-    fn read(alloc: Global, key: &str, value: &Value) -> Result<Phase, KeyFault> {
-        read_phase(alloc, table_of(alloc, key, value)?)
+    fn entry(alloc: Global, table: &Table) -> Result<Phase, KeyFault> {
+        read_phase(alloc, table)
     }
 }
 

@@ -1,21 +1,19 @@
 //! A plan.
 ghost use Rattle.toml.specs.View.{table_view};
-ghost use Rattle.kb_catalog_text.specs.Reads.{IsRead, read_table};
+ghost use Rattle.kb_tables.specs.Reads.{IsRead};
 ghost use Rattle.kb_catalog_text.specs.CatalogText.{plan_in};
 
-use crate::from_value::{FromValue, required, table_of};
-use crate::key_fault::KeyFault;
-use crate::keys::{Among, known_keys};
-use kb_catalog::Plan;
+use crate::entries::{Entry, entries_at};
+use kb_plans::Plan;
+use kb_tables::{Among, KeyFault, known_keys, required};
 use std::alloc::Global;
-use toml::{Table, Value};
+use toml::Table;
 
-impl FromValue for Plan {
-    ghost reads = { read_table plan_in };
+impl Entry for Plan {
+    ghost says = { plan_in };
 
-    #[tactic(auto, using(crate::proofs::ReadSteps::inner))]
-    fn read(alloc: Global, key: &str, value: &Value) -> Result<Plan, KeyFault> {
-        read_plan(alloc, table_of(alloc, key, value)?)
+    fn entry(alloc: Global, table: &Table) -> Result<Plan, KeyFault> {
+        read_plan(alloc, table)
     }
 }
 
@@ -29,7 +27,7 @@ fn read_plan(alloc: Global, table: &Table) -> Result<Plan, KeyFault>
     known_keys(alloc, table, &keys)?;
     let name = required(alloc, table, "name")?;
     let product = required(alloc, table, "product")?;
-    let phases = required(alloc, table, "phase")?;
+    let phases = entries_at(alloc, table, "phase")?;
     Ok(Plan {
         name,
         product,

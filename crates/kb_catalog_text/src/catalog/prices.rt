@@ -2,15 +2,13 @@
 ghost use Rattle.std.specs.Prelude.{◌≡◌, [], Ok};
 ghost use Rattle.toml.specs.View.{table_view};
 ghost use Rattle.kb_money.specs.Currency.{is_currency};
-ghost use Rattle.kb_catalog_text.specs.Reads.{IsRead, read_or, read_table, keys_read};
+ghost use Rattle.kb_tables.specs.Reads.{IsRead, read_or, read_table, keys_read};
 ghost use Rattle.kb_catalog_text.specs.CatalogText.{amounts_in, prices_in};
 
-use crate::from_value::{FromValue, read_or, table_of};
-use crate::key_fault::KeyFault;
-use crate::keys::{Currencies, known_keys};
 use kb_base::Seq;
-use kb_catalog::Price;
 use kb_money::{Currency, Minor};
+use kb_plans::Price;
+use kb_tables::{Currencies, FromValue, KeyFault, known_keys, read_or, table_of};
 use std::alloc::Global;
 use std::marker::Model;
 use toml::{Table, Value};
@@ -23,7 +21,7 @@ struct Prices {
 
 impl Model for Prices {
     ghost use Rattle.std.specs.Prelude.{List};
-    ghost use Rattle.kb_catalog.specs.declared.version.Price.{Price};
+    ghost use Rattle.kb_plans.specs.declared.phase.Price.{Price};
 
     ghost Value = { List Price };
 
@@ -44,7 +42,7 @@ pub(crate) fn prices_at(alloc: Global, table: &Table, key: &str) -> Result<Seq<P
 impl FromValue for Prices {
     ghost reads = { read_table prices_in };
 
-    #[tactic(auto, using(crate::proofs::ReadSteps::inner))]
+    #[tactic(auto, using(kb_tables::proofs::ReadSteps::inner))]
     fn read(alloc: Global, key: &str, value: &Value) -> Result<Prices, KeyFault> {
         read_prices(alloc, table_of(alloc, key, value)?)
     }

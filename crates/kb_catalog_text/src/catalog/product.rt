@@ -1,21 +1,19 @@
 //! A product.
 ghost use Rattle.toml.specs.View.{table_view};
-ghost use Rattle.kb_catalog_text.specs.Reads.{IsRead, read_table};
+ghost use Rattle.kb_tables.specs.Reads.{IsRead};
 ghost use Rattle.kb_catalog_text.specs.CatalogText.{product_in};
 
-use crate::from_value::{FromValue, list_or_empty, required, table_of};
-use crate::key_fault::KeyFault;
-use crate::keys::{Among, known_keys};
-use kb_catalog::Product;
+use crate::entries::Entry;
+use kb_plans::Product;
+use kb_tables::{Among, KeyFault, known_keys, list_or_empty, required};
 use std::alloc::Global;
-use toml::{Table, Value};
+use toml::Table;
 
-impl FromValue for Product {
-    ghost reads = { read_table product_in };
+impl Entry for Product {
+    ghost says = { product_in };
 
-    #[tactic(auto, using(crate::proofs::ReadSteps::inner))]
-    fn read(alloc: Global, key: &str, value: &Value) -> Result<Product, KeyFault> {
-        read_product(alloc, table_of(alloc, key, value)?)
+    fn entry(alloc: Global, table: &Table) -> Result<Product, KeyFault> {
+        read_product(alloc, table)
     }
 }
 

@@ -1,21 +1,19 @@
 //! The rules.
 ghost use Rattle.toml.specs.View.{table_view};
-ghost use Rattle.kb_catalog_text.specs.Reads.{IsRead, read_table};
+ghost use Rattle.kb_tables.specs.Reads.{IsRead};
 ghost use Rattle.kb_catalog_text.specs.CatalogText.{rules_in};
 
-use crate::from_value::{FromValue, required, table_of};
-use crate::key_fault::KeyFault;
-use crate::keys::{Among, known_keys};
-use kb_catalog::Rules;
+use crate::entries::{Entry, entries_at};
+use kb_plans::Rules;
+use kb_tables::{Among, KeyFault, known_keys};
 use std::alloc::Global;
-use toml::{Table, Value};
+use toml::Table;
 
-impl FromValue for Rules {
-    ghost reads = { read_table rules_in };
+impl Entry for Rules {
+    ghost says = { rules_in };
 
-    #[tactic(auto, using(crate::proofs::ReadSteps::inner))]
-    fn read(alloc: Global, key: &str, value: &Value) -> Result<Rules, KeyFault> {
-        read_rules(alloc, table_of(alloc, key, value)?)
+    fn entry(alloc: Global, table: &Table) -> Result<Rules, KeyFault> {
+        read_rules(alloc, table)
     }
 }
 
@@ -33,11 +31,11 @@ fn read_rules(alloc: Global, table: &Table) -> Result<Rules, KeyFault>
         ],
     };
     known_keys(alloc, table, &keys)?;
-    let change_policy = required(alloc, table, "change_policy")?;
-    let change_alignment = required(alloc, table, "change_alignment")?;
-    let cancel_policy = required(alloc, table, "cancel_policy")?;
-    let create_alignment = required(alloc, table, "create_alignment")?;
-    let billing_alignment = required(alloc, table, "billing_alignment")?;
+    let change_policy = entries_at(alloc, table, "change_policy")?;
+    let change_alignment = entries_at(alloc, table, "change_alignment")?;
+    let cancel_policy = entries_at(alloc, table, "cancel_policy")?;
+    let create_alignment = entries_at(alloc, table, "create_alignment")?;
+    let billing_alignment = entries_at(alloc, table, "billing_alignment")?;
     Ok(Rules {
         change_policy,
         change_alignment,

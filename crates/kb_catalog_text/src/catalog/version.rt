@@ -1,13 +1,11 @@
 //! The whole document of a catalog.
 ghost use Rattle.toml.specs.View.{table_view};
-ghost use Rattle.kb_catalog_text.specs.Reads.{IsRead};
+ghost use Rattle.kb_tables.specs.Reads.{IsRead};
 ghost use Rattle.kb_catalog_text.specs.CatalogText.{version_in};
 
-use crate::format::Format;
-use crate::from_value::required;
-use crate::key_fault::KeyFault;
-use crate::keys::{Among, known_keys};
+use crate::entries::{entries_at, entry_at};
 use kb_catalog::Version;
+use kb_tables::{Among, Format, KeyFault, known_keys, required};
 use std::alloc::Global;
 use toml::Table;
 
@@ -30,10 +28,10 @@ pub(crate) fn read_version(alloc: Global, table: &Table) -> Result<Version, KeyF
     let _format: Format = required(alloc, table, "format")?;
     let effective = required(alloc, table, "effective")?;
     let currencies = required(alloc, table, "currencies")?;
-    let products = required(alloc, table, "product")?;
-    let plans = required(alloc, table, "plan")?;
-    let lists = required(alloc, table, "list")?;
-    let rules = required(alloc, table, "rules")?;
+    let products = entries_at(alloc, table, "product")?;
+    let plans = entries_at(alloc, table, "plan")?;
+    let lists = entries_at(alloc, table, "list")?;
+    let rules = entry_at(alloc, table, "rules")?;
     Ok(Version {
         effective,
         currencies,

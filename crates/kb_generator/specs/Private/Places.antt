@@ -1,6 +1,6 @@
 -- How far the commands of a seed have come.
 use Rattle.std.specs.Prelude.{ℕ, ◌+◌, ◌≡◌, ◌≤◌, List, [], ◌∷◌, ◌++◌}
-use Rattle.kb_codec.specs.declared.command.Command.{Command}
+use Rattle.kb_commands.specs.declared.command.Command.{Command}
 use Rattle.kb_generator.specs.declared.place.Place.{Place}
 use Rattle.kb_generator.specs.declared.place.Waiting.{Waiting}
 use Rattle.kb_generator.specs.declared.place.Waiting.TheVariants.{Nothing, Creation, Bill}

@@ -3,8 +3,9 @@
 use super::{ask, two_lists};
 use crate::catalogs::first;
 use crate::compare::same;
-use kb_catalog::{Align, Catalog, Category, ChangeAsk, PhaseType, Policy, Valid};
+use kb_catalog::{Catalog, Valid};
 use kb_days::Period;
+use kb_plans::{Align, Category, ChangeAsk, PhaseType, Policy};
 use kb_samples::SampleFault;
 use std::process::Abort;
 

@@ -3,10 +3,9 @@
 use super::ask;
 use crate::catalogs::first;
 use crate::compare::same;
-use kb_catalog::{
-    Align, BillingAlign, Catalog, Category, ChangeAsk, CreateAlign, PlanAsk, Policy, Valid,
-};
+use kb_catalog::{Catalog, Valid};
 use kb_days::Period;
+use kb_plans::{Align, BillingAlign, Category, ChangeAsk, CreateAlign, PlanAsk, Policy};
 use kb_samples::{SHOP, SampleFault, catalog};
 use std::process::Abort;
 

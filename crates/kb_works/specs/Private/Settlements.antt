@@ -5,9 +5,9 @@ use Rattle.kb_payment.specs.declared.attempt.Status.{Status}
 use Rattle.kb_payment.specs.declared.attempt.Status.TheVariants as status
 use Rattle.kb_gateway.specs.declared.told.Told.{Told}
 use Rattle.kb_gateway.specs.declared.told.Told.TheVariants as told
-use Rattle.kb_codec.specs.declared.command.Command.{Command}
-use Rattle.kb_codec.specs.declared.command.Command.TheVariants as kinds
-use Rattle.kb_codec.specs.Commands.{IsDay}
+use Rattle.kb_commands.specs.declared.command.Command.{Command}
+use Rattle.kb_commands.specs.declared.command.Command.TheVariants as kinds
+use Rattle.kb_commands.specs.Commands.{IsDay}
 use Rattle.kb_journal.specs.Format.{IsSized}
 use Rattle.kb_log.specs.Entries.{payload}
 use Rattle.kb_machine.specs.Judged.{New}

@@ -1,5 +1,5 @@
 use Rattle.std.proofs.Common.{Some}
-use Rattle.kb_codec.specs.declared.command.Command.TheVariants as kinds
+use Rattle.kb_commands.specs.declared.command.Command.TheVariants as kinds
 use Rattle.kb_lane.proofs.Going.{well_performs}
 use Rattle.kb_bills.proofs.bills.give_bill.Goals as goal
 

@@ -1,7 +1,7 @@
 -- The lists that are left give what all give.
 use Rattle.std.proofs.Common.{◌≡◌, bytes_eq, drop}
 use Rattle.std.specs.List.{position_from}
-use Rattle.kb_catalog.specs.declared.version.PriceList.{PriceList}
+use Rattle.kb_plans.specs.declared.price_list.PriceList.{PriceList}
 use Rattle.kb_catalog.specs.LookUp.{names_sold}
 use Rattle.kb_catalog.proofs.lookup.find_list.Given as goal
 

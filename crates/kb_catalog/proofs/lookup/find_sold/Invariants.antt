@@ -1,7 +1,7 @@
 -- The plans that are left give what all give.
 use Rattle.std.proofs.Common.{◌≡◌, drop}
 use Rattle.std.specs.List.{position_from}
-use Rattle.kb_catalog.specs.LookUp.{is_asked}
+use Rattle.kb_plans.specs.Plans.{is_asked}
 use Rattle.kb_catalog.proofs.lookup.find_sold.Given as goal
 
 abbrev pub invariant-loop-place : goal.invariant-loop-place

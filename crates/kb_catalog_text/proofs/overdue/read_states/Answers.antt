@@ -1,6 +1,6 @@
 use Rattle.std.proofs.Common.{refl}
 use Rattle.kb_catalog_text.specs.OverdueText.{states_in}
-use Rattle.kb_catalog_text.proofs.Told.{told}
+use Rattle.kb_tables.proofs.Told.{told}
 use Rattle.kb_catalog_text.proofs.overdue.read_states.Goals as goal
 
 pub returns-in_err-known_keys : goal.returns-in_err-known_keys
@@ -10,4 +10,4 @@ returns-in_err-known_keys c = told _ _ _ c.from_residual.ensures
 
 pub returns : goal.returns
 unfolding states_in
-returns c = rw c.in_ok-known_keys.ensures c.list_or_empty.ensures
+returns c = rw c.in_ok-known_keys.ensures c.entries_or_empty.ensures

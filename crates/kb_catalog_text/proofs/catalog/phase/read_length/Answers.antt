@@ -1,6 +1,6 @@
 use Rattle.std.proofs.Common.{refl}
 use Rattle.kb_catalog_text.specs.CatalogText.{length_in}
-use Rattle.kb_catalog_text.proofs.Told.{told}
+use Rattle.kb_tables.proofs.Told.{told}
 use Rattle.kb_catalog_text.proofs.catalog.phase.read_length.Goals as goal
 
 pub returns-then-not-is_counted : goal.returns-then-not-is_counted

@@ -1,6 +1,6 @@
 use Rattle.std.proofs.Common.{refl}
 use Rattle.kb_catalog_text.specs.CatalogText.{span_in}
-use Rattle.kb_catalog_text.proofs.Told.{told}
+use Rattle.kb_tables.proofs.Told.{told}
 use Rattle.kb_catalog_text.proofs.catalog.phase.read_span.Goals as goal
 
 pub returns-in_err-unit : goal.returns-in_err-unit

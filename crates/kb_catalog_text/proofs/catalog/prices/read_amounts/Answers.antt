@@ -1,11 +1,11 @@
 use Rattle.std.proofs.Common.{◌≡◌, true, Ok, ◌++◌, append-nil, sym, ap, ◌∙◌, string_bytes}
 use Rattle.toml.specs.View.{view, members_view}
 use Rattle.kb_money.specs.Currency.{is_currency}
-use Rattle.kb_catalog_text.specs.Reads.{and_then}
+use Rattle.kb_tables.specs.Reads.{and_then}
 use Rattle.kb_catalog_text.specs.CatalogText.{amounts_in}
 use Rattle.kb_catalog_text.proofs.PriceSteps.{none_failing, first_failing-none, none_before, amounts_in-more}
 use Rattle.kb_catalog_text.proofs.PriceSteps.{amounts_in-fault}
-use Rattle.kb_catalog_text.proofs.Told.{told}
+use Rattle.kb_tables.proofs.Told.{told}
 use Rattle.kb_catalog_text.proofs.catalog.prices.read_amounts.Goals as goal
 
 pub loop-key-init : goal.loop-key-init

@@ -3,7 +3,7 @@
 use Rattle.std.proofs.Common.{◌≡◌, Ok, None, ◌++◌}
 use Rattle.toml.specs.View.{members_view}
 use Rattle.kb_money.specs.Currency.{is_currency}
-use Rattle.kb_catalog_text.specs.Reads.{and_then, first_failing}
+use Rattle.kb_tables.specs.Reads.{and_then, first_failing}
 use Rattle.kb_catalog_text.specs.CatalogText.{amounts_in}
 use Rattle.kb_catalog_text.proofs.catalog.prices.read_amounts.Given as goal
 

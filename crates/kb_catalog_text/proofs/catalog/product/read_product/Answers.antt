@@ -1,6 +1,6 @@
 use Rattle.std.proofs.Common.{refl}
 use Rattle.kb_catalog_text.specs.CatalogText.{product_in}
-use Rattle.kb_catalog_text.proofs.Told.{told}
+use Rattle.kb_tables.proofs.Told.{told}
 use Rattle.kb_catalog_text.proofs.catalog.product.read_product.Goals as goal
 
 pub returns-in_err-known_keys : goal.returns-in_err-known_keys

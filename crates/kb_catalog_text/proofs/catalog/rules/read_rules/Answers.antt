@@ -1,6 +1,6 @@
 use Rattle.std.proofs.Common.{refl}
 use Rattle.kb_catalog_text.specs.CatalogText.{rules_in}
-use Rattle.kb_catalog_text.proofs.Told.{told}
+use Rattle.kb_tables.proofs.Told.{told}
 use Rattle.kb_catalog_text.proofs.catalog.rules.read_rules.Goals as goal
 
 pub returns-in_err-known_keys : goal.returns-in_err-known_keys

@@ -1,0 +1,11 @@
+//! Some lanes, of which one is asked at its place.
+//!
+//! The rule kept here: the lane at a place does what it does by itself, and goes on; each other lane stays as
+//! it is. Layers above tell which lane a request is on, and ask several one after another.
+#![tactic(auto)]
+
+mod places;
+mod tellings;
+
+pub use places::{drain_in, look_up_in, perform_in};
+pub use tellings::{is_full_reply, is_full_step, is_taken_text};

@@ -1,0 +1,2 @@
+pub mod Decided
+mod LastMembers
