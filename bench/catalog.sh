@@ -24,13 +24,13 @@ write_program() {
 
 use kb_base::Seq;
 use kb_catalog::{Valid, Version};
+use kb_days::{Day, Name, Period, Span};
+use kb_money::{Currency, Minor};
 use kb_plans::{
     Align, BillingAlign, BillingCase, CancelCase, Category, ChangeAlignmentCase, ChangeAsk,
     ChangePolicyCase, CreateAlign, CreateCase, Phase, PhaseType, Plan, PlanAsk, PlanCondition,
     Policy, Price, PriceList, Product, Rules,
 };
-use kb_days::{Day, Name, Period, Span};
-use kb_money::{Currency, Minor};
 use std::alloc::Global;
 use std::io;
 use std::time::Instant;

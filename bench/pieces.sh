@@ -30,15 +30,15 @@ write_program() {
 use kb_base::Seq;
 use kb_blocking::{BlockState, Blocks, Flags, Scope};
 use kb_catalog::{Catalog, Valid, Version};
+use kb_days::{Bcd, Day, Name, Period, Span};
+use kb_due::Facts;
+use kb_events::pieces;
+use kb_money::{Currency, Minor};
 use kb_plans::{
     Align, BillingAlign, BillingCase, CancelCase, Category, ChangeAlignmentCase, ChangePolicyCase,
     CreateAlign, CreateCase, Phase, PhaseType, Plan, PlanCondition, Policy, Price, PriceList,
     Product, Rules,
 };
-use kb_days::{Bcd, Day, Name, Period, Span};
-use kb_due::Facts;
-use kb_events::pieces;
-use kb_money::{Currency, Minor};
 use kb_timeline::{Entry, PlanRef, Timeline};
 use std::alloc::Global;
 use std::io;
