@@ -14,7 +14,7 @@ cd "$(dirname "$0")/.."
 . bench/repository.sh
 
 program=catalog_times
-libraries='kb_base kb_days kb_money kb_plans kb_catalog'
+libraries='kb_base kb_days kb_money kb_plans kb_valid'
 
 write_program() {
     cat <<'END'
@@ -23,7 +23,6 @@ write_program() {
 #![tactic(auto)]
 
 use kb_base::Seq;
-use kb_catalog::{Valid, Version};
 use kb_days::{Day, Name, Period, Span};
 use kb_money::{Currency, Minor};
 use kb_plans::{
@@ -31,6 +30,7 @@ use kb_plans::{
     ChangePolicyCase, CreateAlign, CreateCase, Phase, PhaseType, Plan, PlanAsk, PlanCondition,
     Policy, Price, PriceList, Product, Rules,
 };
+use kb_valid::{Valid, Version};
 use std::alloc::Global;
 use std::io;
 use std::time::Instant;

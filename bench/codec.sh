@@ -13,8 +13,8 @@ cd "$(dirname "$0")/.."
 . bench/repository.sh
 
 program=codec_times
-libraries='kb_base kb_days kb_money kb_lists kb_sharing kb_plans kb_catalog kb_overdue kb_blocking
-    kb_payment kb_tables kb_catalog_text kb_commands kb_members kb_codec'
+libraries='kb_base kb_days kb_sharing kb_money kb_plans kb_valid kb_overdue kb_blocking kb_payment
+    kb_tables kb_entries kb_catalog_text kb_commands kb_members kb_codec'
 libraries=$(echo $libraries)
 
 write_program() {

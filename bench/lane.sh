@@ -14,11 +14,11 @@ cd "$(dirname "$0")/.."
 . bench/repository.sh
 
 program=lane_times
-libraries='kb_base kb_days kb_lists kb_sharing kb_money kb_history kb_plans kb_catalog kb_overdue kb_align
-    kb_timeline kb_blocking kb_credit kb_payment kb_tables kb_catalog_text kb_commands kb_members kb_codec
-    kb_ports kb_disk kb_journal kb_log kb_gateway kb_due kb_events kb_tree kb_terms kb_book kb_reply
-    kb_billing kb_edits kb_laws kb_account kb_machine kb_replays kb_attempts kb_drains kb_versions
-    kb_records kb_works kb_lane kb_bills'
+libraries='kb_base kb_days kb_lists kb_sharing kb_money kb_history kb_plans kb_valid kb_catalog kb_overdue
+    kb_align kb_timeline kb_blocking kb_credit kb_payment kb_tables kb_entries kb_catalog_text
+    kb_commands kb_members kb_codec kb_ports kb_disk kb_journal kb_log kb_gateway kb_due kb_events
+    kb_tree kb_terms kb_book kb_reply kb_billing kb_edits kb_laws kb_account kb_machine kb_replays
+    kb_attempts kb_drains kb_versions kb_records kb_works kb_lane kb_bills'
 libraries=$(echo $libraries)
 
 write_program() {

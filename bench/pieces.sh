@@ -19,7 +19,8 @@ cd "$(dirname "$0")/.."
 . bench/repository.sh
 
 program=pieces_times
-libraries='kb_base kb_days kb_money kb_plans kb_catalog kb_align kb_timeline kb_blocking kb_due kb_events'
+libraries='kb_base kb_days kb_money kb_plans kb_valid kb_catalog kb_align kb_timeline kb_blocking kb_due
+    kb_events'
 
 write_program() {
     cat <<'END'
@@ -29,7 +30,7 @@ write_program() {
 
 use kb_base::Seq;
 use kb_blocking::{BlockState, Blocks, Flags, Scope};
-use kb_catalog::{Catalog, Valid, Version};
+use kb_catalog::Catalog;
 use kb_days::{Bcd, Day, Name, Period, Span};
 use kb_due::Facts;
 use kb_events::pieces;
@@ -40,6 +41,7 @@ use kb_plans::{
     Product, Rules,
 };
 use kb_timeline::{Entry, PlanRef, Timeline};
+use kb_valid::{Valid, Version};
 use std::alloc::Global;
 use std::io;
 use std::time::Instant;

@@ -1,16 +1,11 @@
 -- How a run of lanes over the lines of a source ends.
-use Rattle.std.specs.Prelude.{ℕ, ◌≡◌, Bool, true, false, List, Result, Ok, Err}
-use Rattle.std.specs.List.{list_any}
+use Rattle.std.specs.Prelude.{ℕ, ◌≡◌, true, false, List, Result, Ok, Err}
 use Rattle.kb_base.specs.Machine.{Machine}
-use Rattle.kb_lane.specs.Lanes.{LaneValue}
+use Rattle.kb_lanes.specs.Stops.{any_stopped}
 use Rattle.kb_lines.specs.Reading.{Known, Ends, StopsBy}
 use Rattle.kb_apply.specs.declared.apply.ApplyStop.{ApplyStop}
 use Rattle.kb_apply.specs.declared.apply.ApplyStop.TheVariants.{Run, Disk, Full}
 use Rattle.kb_apply.specs.LaneRuns.{LanesValue}
-
--- an append failed on one of some lanes
-abbrev pub any_stopped : {D G : Type 0} → List (LaneValue D G) → Bool
-any_stopped lanes = list_any (λ lane. lane.log.journal.stopped) lanes
 
 -- How lanes are left whose input was read to its end: an append failed on one; or none did, and one had no
 -- room; or neither.

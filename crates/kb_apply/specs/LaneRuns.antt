@@ -1,19 +1,16 @@
 -- Lanes that answer lines: what each line does to them, and what is said.
-use Rattle.std.specs.Prelude.{ℕ, zero, suc, ◌+◌, ◌-◌, ◌≡◌, ◌≤◌, ◌⊎◌, ◌||◌, Bool, true, false, List, [], ◌∷◌}
-use Rattle.std.specs.Prelude.{◌++◌, length, set, slice_get, Option, Some, None}
-use Rattle.std.specs.Prelude.{Result, Ok, Err, IfSome, if◌then◌else◌, ⊤, refl}
+use Rattle.std.specs.Prelude.{ℕ, zero, suc, ◌+◌, ◌-◌, ◌≡◌, ◌≤◌, ◌⊎◌, ◌||◌, Bool, true, false, List, length}
+use Rattle.std.specs.Prelude.{slice_get, Option, Some, None}
+use Rattle.std.specs.Prelude.{Result, Ok, Err, IfSome, if◌then◌else◌, ⊤}
 use Rattle.kb_base.specs.Machine.{Machine}
-use Rattle.kb_base.specs.Lines.{line_feed}
 use Rattle.kb_days.specs.Calendar.{first_day, last_day}
 use Rattle.kb_gateway.specs.declared.order.Asked.{Asked}
 use Rattle.kb_gateway.specs.declared.told.Saying.{Saying}
 use Rattle.kb_commands.specs.declared.command.Command.{Command}
 use Rattle.kb_book.specs.declared.refusal.Refusal.{Refusal}
-use Rattle.kb_book.specs.declared.refusal.Refusal.TheVariants as refusals
 use Rattle.kb_account.specs.declared.query.Query.{Query}
 use Rattle.kb_account.specs.declared.view.View.{View}
 use Rattle.kb_reply.specs.declared.reply.LaneReply.{LaneReply}
-use Rattle.kb_reply.specs.declared.reply.LaneReply.TheVariants as replies
 use Rattle.kb_reply.specs.declared.step.Step.{Step}
 use Rattle.kb_reply.specs.declared.step.Step.TheVariants as steps
 use Rattle.kb_machine.specs.Machines.{account_of, is_text}
@@ -34,7 +31,7 @@ use Rattle.kb_request.specs.Asked.{IsAsked}
 use Rattle.kb_request.specs.Requests.{ask}
 use Rattle.kb_say.specs.declared.said.Said.{Said}
 use Rattle.kb_say.specs.declared.said.Said.TheVariants as says
-use Rattle.kb_say.specs.Answers.{say}
+use Rattle.kb_tell.specs.Telling.{Says, IsPartOf}
 
 -- What is told of disks, gateways and a clock: whether a disk is honest, how many moments it had, what a
 -- crash since one may leave, and how often it failed; what a gateway was asked and said, and how often it
@@ -182,25 +179,6 @@ Serves outside today (whats.Query query) old new spoken =
 Serves outside today whats.Janitor old new spoken = (step : Step) × (spoken ≡ says.Janitor step)
     × LookUpFrom outside today 0 (length old.lanes) old new step
 
--- what is said tells of something that may have been written down
-abbrev pub tells_change : Said → Bool
-tells_change (says.Reply (replies.Accepted answer)) = true
-tells_change (says.Reply (replies.Version number)) = true
-tells_change (says.Reply (replies.States number)) = true
-tells_change (says.Reply replies.DiskFault) = true
-tells_change (says.Janitor step) = true
-tells_change other = false
-
-a_refusal_tells_none : tells_change (says.Reply (replies.Refused refusals.NoAccount)) ≡ false
-a_refusal_tells_none = refl
-
--- The line that says it: its text. If there is no memory for that, and what is said tells of no change, it
--- may be the text of want of memory. So it may if a text was taken by some lanes and then refused by the
--- next.
-abbrev pub Says : Said → List ℕ → Type 0
-Says spoken text = (text ≡ say spoken ++ line_feed ∷ [])
-    ⊎ ((tells_change spoken ≡ false) × (text ≡ say (says.Fault faults.NoMemory) ++ line_feed ∷ []))
-
 -- the day of a request: the one that it names, or one that the clock gave
 abbrev pub IsDayOf : {D G C : Type 0} → Outside D G C → C → Option ℕ → ℕ → Type 0
 IsDayOf outside clock (Some named) today = today ≡ named
@@ -220,9 +198,6 @@ Answers outside old (Ok request) text new = (today : ℕ) × (served : LanesValu
     (lanes_on (length old.lanes) (account_on request.what)) served new
 
 -- What a line may do for which memory ran out: a part of what is said, and some of what is drained.
-abbrev pub IsPartOf : List ℕ → List ℕ → Type 0
-IsPartOf part text = (rest : List ℕ) × (text ≡ part ++ rest)
-
 abbrev pub AnswersPart : {D G C : Type 0} → Outside D G C → LanesValue D G C → Result Request RequestFault
     → List ℕ
     → LanesValue D G C → Type 0

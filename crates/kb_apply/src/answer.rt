@@ -9,7 +9,6 @@ ghost use Rattle.kb_apply.specs.LaneRuns.{IsShownAt, Serves, ServesCommand};
 
 use crate::Lanes;
 use crate::account::{account_of, account_on};
-use crate::says::tell;
 use kb_account::Query;
 use kb_base::NoMemory;
 use kb_book::Unprepared;
@@ -23,6 +22,7 @@ use kb_lines::LineMachine;
 use kb_reply::LaneReply;
 use kb_request::{Request, RequestFault, What, read_request};
 use kb_say::Said;
+use kb_tell::tell;
 use std::alloc::Global;
 
 impl<D: Disk, G: Gateway + Drop, C: Clock + Drop> LineMachine for Lanes<D, G, C> {

@@ -3,13 +3,14 @@ ghost use Rattle.std.specs.Prelude.{◌≡◌, ◌≤◌, Err};
 ghost use Rattle.kb_base.specs.Faults.{Rose};
 ghost use Rattle.kb_lines.specs.declared.stop.Stop.TheVariants.{Input, Output};
 ghost use Rattle.kb_apply.specs.declared.apply.ApplyStop.TheVariants.{Run};
-ghost use Rattle.kb_apply.specs.Applying.{Applies, IsOutcome, any_stopped};
+ghost use Rattle.kb_apply.specs.Applying.{Applies, IsOutcome};
 ghost use Rattle.kb_apply.specs.LaneRuns.{lanes_machine, outside_of};
 
 use crate::Lanes;
 use kb_clock::Clock;
 use kb_disk::Disk;
 use kb_gateway::Gateway;
+use kb_lanes::any_stopped;
 use kb_lines::{Stop, run_lines};
 use kb_ports::{Sink, Source};
 use std::alloc::Global;
@@ -59,19 +60,12 @@ impl<D: Disk, G: Gateway + Drop, C: Clock + Drop> Lanes<D, G, C> {
     fn outcome(&self) -> Result<(), ApplyStop>
         ensures { IsOutcome self.now result }
     {
-        if self.has_stopped() {
+        if any_stopped(self.lanes.as_slice()) {
             return Err(ApplyStop::Disk);
         }
         if self.full {
             return Err(ApplyStop::Full);
         }
         Ok(())
-    }
-
-    /// Whether an append failed on a lane.
-    fn has_stopped(&self) -> bool
-        ensures { result ≡ any_stopped self.now.lanes }
-    {
-        self.lanes.iter().any(|lane| lane.is_stopped())
     }
 }

@@ -12,7 +12,6 @@ mod apply;
 mod drains;
 mod lanes;
 mod look_ups;
-mod says;
 mod texts;
 
 pub use apply::{ApplyStop, apply_lanes};

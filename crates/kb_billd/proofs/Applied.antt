@@ -14,7 +14,8 @@ use Rattle.kb_lane.specs.Lanes.{LaneValue}
 use Rattle.kb_lines.specs.Reading.{Known}
 use Rattle.kb_apply.specs.declared.apply.ApplyStop.{ApplyStop}
 use Rattle.kb_apply.specs.declared.apply.ApplyStop.TheVariants as applied
-use Rattle.kb_apply.specs.Applying.{Applies, any_stopped}
+use Rattle.kb_apply.specs.Applying.{Applies}
+use Rattle.kb_lanes.specs.Stops.{any_stopped}
 use Rattle.kb_lanes.specs.Continuing.{Continues, ContinueAll}
 use Rattle.kb_apply.specs.LaneRuns.{LanesValue, Outside, outside_of, lanes_machine}
 use Rattle.kb_apply.proofs.Continuing.{done_continues, stopped_continues}

@@ -16,12 +16,12 @@ ghost use Rattle.kb_billd.specs.Reports.{ReportsFolder, said_by};
 use crate::command::{apply_folder, init_folder, make_accounts, report_folder};
 use kb_clock::Clock;
 use kb_endings::{Stop, close};
-use kb_gateway::Market;
+use kb_gateway::{Market, NoMarket};
 use kb_lines::Stop as RunStop;
-use kb_opening::NoMarket;
+use kb_options::Text;
 use kb_ports::{Sink, Source};
 use kb_vault::Vault;
-use kb_words::{Apply, Init, Report, Text, Words, WordsFault, read_words};
+use kb_words::{Apply, Init, Report, Words, WordsFault, read_words};
 use std::alloc::Global;
 
 /// Does what the words say, which are those behind the program's name, and gives the exit status. No lane

@@ -5,7 +5,7 @@ use Rattle.kb_base.specs.Runs.{runs}
 use Rattle.kb_days.specs.Calendar.{month_of, month_after, month_start, month_length}
 use Rattle.kb_days.specs.Dates.{march}
 use Rattle.kb_days.specs.declared.period.Period.TheVariants.{Monthly}
-use Rattle.kb_catalog.specs.SmallVersion.{small}
+use Rattle.kb_valid.specs.SmallVersion.{small}
 use Rattle.kb_align.specs.Phases.{phase_on, phase_starts}
 use Rattle.kb_align.specs.PeriodDays.{period_on, last_day_on, next_day_after, is_boundary, first_month}
 use Rattle.kb_blocking.specs.Blocking.{is_on}

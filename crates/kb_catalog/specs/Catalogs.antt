@@ -1,8 +1,9 @@
--- Catalogs: valid versions by rising date.
-use Rattle.std.specs.Prelude.{ℕ, ◌-◌, ◌≡◌, ◌<◌, ◌≤◌, List, length, slice_get, Some, IsSomeAnd, IfSome, All}
+-- Catalogs: valid versions by rising date, and which one is used on a day.
+use Rattle.std.specs.Prelude.{ℕ, ◌+◌, ◌-◌, ◌≡◌, ◌<◌, ◌≤◌, Bool, true, false, nat_le, List, [], ◌∷◌, length}
+use Rattle.std.specs.Prelude.{slice_get, Option, Some, None, IsSomeAnd, IfSome, All}
 use Rattle.std.specs.List.{AllPairs}
-use Rattle.kb_catalog.specs.declared.version.Version.{Version}
-use Rattle.kb_catalog.specs.VersionRules.{IsValid}
+use Rattle.kb_valid.specs.declared.version.Version.{Version}
+use Rattle.kb_valid.specs.VersionRules.{IsValid}
 
 -- the most versions that a catalog has
 abbrev pub max_versions : ℕ
@@ -24,6 +25,20 @@ IsEarly versions version = IsSomeAnd (slice_get versions (length versions - 1))
 abbrev pub IsLater : List Version → Version → Type 0
 IsLater versions version = IfSome (slice_get versions (length versions - 1))
     (λ (last : Version). last.effective < version.effective)
+
+-- the place of the last version that is effective on or before a day
+abbrev pub version_at_from : ℕ → List Version → ℕ → Option ℕ
+version_at_from place [] day = None
+version_at_from place (version ∷ later) day = latest (version_at_from (place + 1) later day)
+    (nat_le version.effective day) place
+  where
+    latest : Option ℕ → Bool → ℕ → Option ℕ
+    latest (Some after) effective here = Some after
+    latest None true here = Some here
+    latest None false here = None
+
+abbrev pub version_at : List Version → ℕ → Option ℕ
+version_at versions day = version_at_from 0 versions day
 
 -- the version at a place is the last one whose date is on or before a day
 pub record IsLatest (versions : List Version) (day place : ℕ) : Type 0 where

@@ -1,19 +1,11 @@
-//! Catalogs: what a shop sells, as types that can only hold a sound catalog, and the questions that
-//! billing asks of it.
+//! Catalogs: what a shop sells, from each date on.
 //!
-//! The rule kept here: a version of a catalog is `Valid` only where its twelve rules hold, so the layers
-//! above use any of them without a test; a catalog is a list of valid versions by rising date.
+//! The rule kept here: a catalog is a list of valid versions by rising date, and on a day the last one is used
+//! whose date is on or before it. Layers above ask a catalog for the version of a day, and that version for
+//! what it sells.
 #![tactic(auto)]
 
 mod catalog;
-mod check;
-mod lookup;
-mod rule;
 mod threads;
-mod valid;
-mod version;
 
 pub use catalog::{AddFault, Catalog, MAX_VERSIONS};
-pub use rule::{CatalogFault, Rule};
-pub use valid::Valid;
-pub use version::Version;

@@ -1,12 +1,8 @@
 //! What threads may share: a catalog is handed to each of them.
 
-use crate::{Catalog, Valid, Version};
+use crate::Catalog;
 
 /// May be moved to another thread, and be read there while others read it.
 trait CrossesThreads: Send + Sync {}
 
 impl CrossesThreads for Catalog {}
-
-impl CrossesThreads for Valid {}
-
-impl CrossesThreads for Version {}

@@ -1,3 +1,2 @@
-pub mod PriceSteps
 pub mod TextSteps
 pub mod FaultCauses

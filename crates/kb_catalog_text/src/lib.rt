@@ -4,11 +4,10 @@
 //! refused by the first fault in that order, by name. The text is kept beside the value, unchanged.
 #![tactic(auto)]
 
-mod catalog;
-mod entries;
 mod fault;
 mod overdue;
 mod reading;
+mod version;
 
 pub use fault::TextFault;
 pub use reading::{Checked, CheckedOverdue, MAX_BYTES, read, read_overdue};

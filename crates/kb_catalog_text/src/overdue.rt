@@ -1,12 +1,12 @@
-//! The tables of an overdue text.
+//! The whole document of an overdue text.
 ghost use Rattle.toml.specs.View.{table_view};
 ghost use Rattle.kb_tables.specs.Reads.{IsRead};
-ghost use Rattle.kb_catalog_text.specs.OverdueText.{state_in, states_in};
+ghost use Rattle.kb_catalog_text.specs.OverdueText.{states_in};
 
-use crate::entries::{Entry, entries_or_empty};
 use kb_base::Seq;
+use kb_entries::entries_or_empty;
 use kb_overdue::OverdueState;
-use kb_tables::{Among, KeyFault, known_keys, optional, required};
+use kb_tables::{Among, KeyFault, known_keys};
 use std::alloc::Global;
 use toml::Table;
 
@@ -17,46 +17,4 @@ pub(crate) fn read_states(alloc: Global, table: &Table) -> Result<Seq<OverdueSta
     let keys = Among { keys: &["state"] };
     known_keys(alloc, table, &keys)?;
     entries_or_empty(alloc, table, "state")
-}
-
-impl Entry for OverdueState {
-    ghost says = { state_in };
-
-    fn entry(alloc: Global, table: &Table) -> Result<OverdueState, KeyFault> {
-        read_state(alloc, table)
-    }
-}
-
-/// The state that a table says.
-fn read_state(alloc: Global, table: &Table) -> Result<OverdueState, KeyFault>
-    ensures { IsRead result (state_in (table_view table.now)) }
-{
-    let keys = Among {
-        keys: &[
-            "name",
-            "days",
-            "count",
-            "total",
-            "block_change",
-            "block_entitlement",
-            "block_billing",
-        ],
-    };
-    known_keys(alloc, table, &keys)?;
-    let name = required(alloc, table, "name")?;
-    let days = optional(alloc, table, "days")?;
-    let count = optional(alloc, table, "count")?;
-    let total = optional(alloc, table, "total")?;
-    let block_change = required(alloc, table, "block_change")?;
-    let block_entitlement = required(alloc, table, "block_entitlement")?;
-    let block_billing = required(alloc, table, "block_billing")?;
-    Ok(OverdueState {
-        name,
-        days,
-        count,
-        total,
-        block_change,
-        block_entitlement,
-        block_billing,
-    })
 }

@@ -7,11 +7,11 @@ ghost use Rattle.kb_catalog_text.specs.Texts.{max_bytes, document_of, catalog_re
 ghost use Rattle.kb_catalog_text.specs.Texts.{version_judged, states_judged, judged, IsFaultOf, IsNoDocument};
 
 use crate::TextFault;
-use crate::catalog::read_version;
 use crate::overdue::read_states;
+use crate::version::read_version;
 use kb_base::Seq;
-use kb_catalog::Valid;
 use kb_overdue::Config;
+use kb_valid::Valid;
 use std::alloc::Global;
 use std::marker::Model;
 use toml::Table;

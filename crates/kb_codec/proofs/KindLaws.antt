@@ -10,15 +10,15 @@ use Rattle.kb_commands.specs.Commands.{IsCommand}
 use Rattle.kb_members.specs.Reading.{Reader, into, byte_in}
 use Rattle.kb_codec.specs.Private.Parts as parts
 use Rattle.kb_members.specs.Kinds.{Member, both, optional, name, currency, bcd, day, invoice, amount}
-use Rattle.kb_members.specs.Kinds.{truth, period, scope, status, flags}
-use Rattle.kb_codec.specs.Private.Parts.{catalog, overdue, readers}
+use Rattle.kb_members.specs.Kinds.{truth, period, scope, status, flags, catalog, overdue}
+use Rattle.kb_codec.specs.Private.Parts.{readers}
 use Rattle.kb_codec.specs.Private.Parts.{command_in}
 use Rattle.kb_members.proofs.Readers.{IsBytes, into_some, into_again, chained_again, Holds}
 use Rattle.kb_members.proofs.MemberLaws.{IsExact, name_exact, currency_exact, bcd_exact, day_exact}
 use Rattle.kb_members.proofs.MemberLaws.{invoice_exact, amount_exact, truth_exact, period_exact}
 use Rattle.kb_members.proofs.MemberLaws.{scope_exact, status_exact, flags_exact}
 use Rattle.kb_members.proofs.MemberLaws.{optional_exact, both_exact}
-use Rattle.kb_codec.proofs.TextMemberLaws.{catalog_exact, overdue_exact}
+use Rattle.kb_members.proofs.TextMemberLaws.{catalog_exact, overdue_exact}
 
 -- the commands of a kind are spelled by their members
 pub record IsKind {A : Type 0} (kind : ℕ) (m : Member A) (of : A → Command) : Type 0 where

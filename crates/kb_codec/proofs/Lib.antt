@@ -1,4 +1,2 @@
-pub mod ShortTexts
-pub mod TextMemberLaws
 pub mod KindLaws
 pub mod CommandLaws

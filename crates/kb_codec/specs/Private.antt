@@ -1,3 +1,2 @@
-pub mod TextReading
 pub mod Parts
 pub mod SmallReadings

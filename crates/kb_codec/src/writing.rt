@@ -41,7 +41,7 @@ pub(crate) fn put_command(out: &mut Vec<u8>, command: &Command) -> Result<(), No
     }
 }
 
-#[tactic(auto, using(crate::proofs::ShortTexts::catalog_short))]
+#[tactic(auto, using(kb_members::proofs::ShortTexts::catalog_short))]
 fn put_catalog_text(out: &mut Vec<u8>, members: &Catalog) -> Result<(), NoMemory>
     ensures { OnOk result (out.new.items ≡ out.old.items ++ spelling (kinds.Catalog members.now)) }
 {
@@ -52,7 +52,7 @@ fn put_catalog_text(out: &mut Vec<u8>, members: &Catalog) -> Result<(), NoMemory
     put_text(out, members.text.text())
 }
 
-#[tactic(auto, using(crate::proofs::ShortTexts::overdue_short))]
+#[tactic(auto, using(kb_members::proofs::ShortTexts::overdue_short))]
 fn put_overdue_rules(out: &mut Vec<u8>, members: &OverdueRules) -> Result<(), NoMemory>
     ensures { OnOk result (out.new.items ≡ out.old.items ++ spelling (kinds.OverdueRules members.now)) }
 {

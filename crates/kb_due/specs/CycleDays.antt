@@ -11,7 +11,7 @@ use Rattle.kb_plans.specs.declared.words.BillingAlign.{BillingAlign}
 use Rattle.kb_plans.specs.declared.words.BillingAlign.TheVariants.{Account, Bundle, Subscription as Own}
 use Rattle.kb_plans.specs.declared.ask.PlanAsk.{PlanAsk}
 use Rattle.kb_plans.specs.Cases.{first_match, fits_plan}
-use Rattle.kb_catalog.specs.Products.{product_named}
+use Rattle.kb_valid.specs.Products.{product_named}
 use Rattle.kb_plans.specs.Plans.{plan_period, price_in}
 use Rattle.kb_align.specs.Phases.{phase_starts}
 use Rattle.kb_timeline.specs.declared.entry.Entry.{Entry}

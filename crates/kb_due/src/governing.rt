@@ -7,10 +7,11 @@ ghost use Rattle.kb_due.specs.Governing.{choice_of, choice_in, governing_phase, 
 ghost use Rattle.kb_due.specs.Governing.{governing_by, governing_on, IsBegun};
 
 use kb_align::{PhaseAt, begun_phase, next_start};
-use kb_catalog::{Catalog, Valid};
+use kb_catalog::Catalog;
 use kb_days::{Day, Reach};
 use kb_plans::{Phase, Plan, PriceList};
 use kb_timeline::{Entries, Entry, PlanRef};
+use kb_valid::Valid;
 use std::marker::Model;
 
 /// A plan that an entry refers to, with its version and the list by which it was chosen.

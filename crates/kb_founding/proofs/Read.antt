@@ -5,7 +5,7 @@ use Rattle.std.proofs.Common.{Result, Ok, Err, IsOk, refl, subst, arith, ◌∙�
 use Rattle.std.proofs.lemmas.Bool.Decides.{nat_tests}
 use Rattle.std.proofs.lemmas.List.{take_all, length-take}
 use Rattle.toml.specs.Data.{Members}
-use Rattle.kb_catalog.specs.declared.version.Version.{Version}
+use Rattle.kb_valid.specs.declared.version.Version.{Version}
 use Rattle.kb_overdue.specs.declared.state.OverdueState.{OverdueState}
 use Rattle.kb_catalog_text.specs.declared.fault.TextFault.{TextFault}
 use Rattle.kb_tables.specs.Reads.{Read}

@@ -11,6 +11,7 @@ mod id;
 mod list_gateway;
 mod list_market;
 mod market;
+mod no_market;
 mod order;
 mod told;
 
@@ -19,5 +20,6 @@ pub use id::{gateway_id, uuid_of};
 pub use list_gateway::ListGateway;
 pub use list_market::ListMarket;
 pub use market::Market;
+pub use no_market::{NoGateway, NoMarket};
 pub use order::{Asked, Order};
 pub use told::{Call, Heard, Saying, Seen, Told, status_of};

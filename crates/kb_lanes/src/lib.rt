@@ -5,7 +5,9 @@
 #![tactic(auto)]
 
 mod places;
+mod stops;
 mod tellings;
 
 pub use places::{drain_in, look_up_in, perform_in};
+pub use stops::any_stopped;
 pub use tellings::{is_full_reply, is_full_step, is_taken_text};

@@ -11,7 +11,7 @@ use Rattle.kb_credit.specs.declared.line.Line.{Line}
 use Rattle.kb_credit.specs.Items.{amount_of}
 use Rattle.kb_credit.specs.Sizes.{size_of}
 use Rattle.kb_credit.specs.InvoiceRows.{InvoicesValue, paid, credit}
-use Rattle.kb_credit.specs.InvoiceEdits.{issued, levelled}
+use Rattle.kb_credit.specs.InvoiceEdits.{issued}
 use Rattle.kb_credit.specs.Levelling.{adjust, made_on, with_made, used_on, with_used, levelled_rows}
 use Rattle.kb_payment.specs.declared.attempt.Attempt.{Attempt}
 use Rattle.kb_payment.specs.Attempts.{paid_by}

@@ -3,7 +3,7 @@ use Rattle.std.proofs.Common.{◌≡◌, ◌<◌, ◌≤◌, ◌==◌, true, fal
 use Rattle.std.proofs.Common.{None, refl, arith}
 use Rattle.std.proofs.Common.{IfSome, IsSomeAnd}
 use Rattle.std.proofs.lemmas.Bool.Decides.{nat_tests}
-use Rattle.kb_catalog.specs.declared.version.Version.{Version}
+use Rattle.kb_valid.specs.declared.version.Version.{Version}
 use Rattle.kb_catalog.specs.Catalogs.{max_versions, IsEarly, IsLater}
 use Rattle.kb_book.specs.declared.refusal.Refusal.TheVariants.{VersionOrder}
 use Rattle.kb_book.specs.Rows.{first_refusal, limit}

@@ -4,7 +4,7 @@ use Rattle.std.specs.Prelude.{◌++◌, length}
 use Rattle.std.specs.Prelude.{slice_get, Option, Some, None, if◌then◌else◌}
 use Rattle.std.specs.FinMap.{find, put}
 use Rattle.kb_sharing.specs.Keys.{by_words}
-use Rattle.kb_catalog.specs.declared.version.Version.{Version}
+use Rattle.kb_valid.specs.declared.version.Version.{Version}
 use Rattle.kb_catalog.specs.Catalogs.{max_versions}
 use Rattle.kb_commands.specs.declared.command.Catalog.{Catalog}
 use Rattle.kb_commands.specs.declared.command.OverdueRules.{OverdueRules}

@@ -14,7 +14,7 @@ use crate::{Change, KeptText, Machine, Planned};
 use kb_account::World;
 use kb_base::{NoMemory, Seq};
 use kb_book::{Refusal, Unprepared};
-use kb_catalog::{AddFault, Catalog, Valid};
+use kb_catalog::{AddFault, Catalog};
 use kb_catalog_text::{Checked, CheckedOverdue, read, read_overdue};
 use kb_codec::encode;
 use kb_commands::{Catalog as CatalogText, Command, OverdueRules};
@@ -22,6 +22,7 @@ use kb_days::Name;
 use kb_overdue::Config;
 use kb_reply::LaneReply;
 use kb_sharing::SharedMap;
+use kb_valid::Valid;
 use std::alloc::Global;
 
 impl Machine {

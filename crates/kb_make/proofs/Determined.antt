@@ -9,7 +9,7 @@ use Rattle.kb_machine.specs.Machines.{MachineValue}
 use Rattle.kb_machine.specs.Histories.{replay}
 use Rattle.kb_founding.specs.Foundings.{first_commands}
 use Rattle.kb_generator.specs.Seeds.{commands_of}
-use Rattle.kb_reports.specs.Totals.{totals_of}
+use Rattle.kb_totals.specs.Totals.{totals_of}
 use Rattle.kb_make.specs.Makes.{Busy, IsDoneWith, Makes, Sends, done_times, first_done, is_refused}
 use Rattle.kb_make.specs.Summaries.{IsSummary, summary_text}
 

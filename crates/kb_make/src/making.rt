@@ -7,7 +7,7 @@ use crate::sending::send_all;
 use crate::summary::summary_text;
 use kb_base::NoMemory;
 use kb_generator::Generator;
-use kb_reports::Totals;
+use kb_totals::Totals;
 use std::alloc::Global;
 
 /// The summary of what the commands of a seed make, for so many accounts and months, with its line feed. A

@@ -6,7 +6,7 @@ ghost use Rattle.kb_make.specs.Private.Lines.{counts_text, sums_text, balances_t
 
 use kb_base::NoMemory;
 use kb_digits::push;
-use kb_reports::Totals;
+use kb_totals::Totals;
 use std::alloc::Global;
 
 /// What all accounts add up to, and how many commands were refused, as a line.

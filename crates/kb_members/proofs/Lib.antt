@@ -1,2 +1,4 @@
 pub mod Readers
 pub mod MemberLaws
+pub mod ShortTexts
+pub mod TextMemberLaws

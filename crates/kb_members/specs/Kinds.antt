@@ -6,13 +6,15 @@ use Rattle.kb_money.specs.Currency.{IsCurrency}
 use Rattle.kb_payment.specs.declared.attempt.Status.{Status}
 use Rattle.kb_blocking.specs.declared.state.Flags.{Flags}
 use Rattle.kb_commands.specs.declared.scope.BlockScope.{BlockScope}
-use Rattle.kb_commands.specs.Commands.{IsDay, IsBcd, IsAmount, IsInvoiceNo}
+use Rattle.kb_catalog_text.specs.Texts.{CatalogText, OverdueText}
+use Rattle.kb_commands.specs.Commands.{IsDay, IsBcd, IsAmount, IsInvoiceNo, IsCatalogText, IsOverdueText}
 use Rattle.kb_members.specs.Members.{name_bytes, currency_bytes, bcd_bytes, day_bytes, invoice_bytes}
 use Rattle.kb_members.specs.Members.{amount_bytes, optional_bytes, truth_bytes, period_bytes, scope_bytes}
-use Rattle.kb_members.specs.Members.{status_bytes, flags_bytes}
+use Rattle.kb_members.specs.Members.{status_bytes, flags_bytes, text_bytes}
 use Rattle.kb_members.specs.Reading.{Reader, name_in, currency_in, bcd_in, day_in, invoice_in, amount_in}
 use Rattle.kb_members.specs.Reading.{truth_in, optional_in, period_in, scope_in, status_in, flags_in}
 use Rattle.kb_members.specs.Reading as reading
+use Rattle.kb_members.specs.TextReading.{catalog_in, overdue_in}
 
 -- a kind of member: how it is spelled, how it is read, and which values there are
 pub record Member (A : Type 0) : Type 1 where
@@ -79,3 +81,11 @@ status = record { spell = status_bytes; read = status_in; allowed = λ status. U
 -- the flags of a blocking state
 abbrev pub flags : Member Flags
 flags = record { spell = flags_bytes; read = flags_in; allowed = λ flags. Unit {0} }
+
+-- a catalog text
+abbrev pub catalog : Member CatalogText
+catalog = record { spell = λ text. text_bytes text.text; read = catalog_in; allowed = IsCatalogText }
+
+-- an overdue text
+abbrev pub overdue : Member OverdueText
+overdue = record { spell = λ text. text_bytes text.text; read = overdue_in; allowed = IsOverdueText }

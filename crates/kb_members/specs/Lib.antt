@@ -1,4 +1,5 @@
 pub mod Members
 pub mod Reading
+pub mod TextReading
 pub mod Kinds
 pub mod SmallReadings

@@ -1,4 +1,4 @@
-//! Members of commands as bytes: names, days, amounts, numbers and words, one by one.
+//! Members of commands as bytes: names, days, amounts, numbers, words and texts, one by one.
 //!
 //! The rule kept here: each member has one spelling, and no spelling begins another one of its kind. What is
 //! read from the front of some bytes is exactly a member that a command may have, and else nothing. Layers
@@ -7,6 +7,7 @@
 
 mod member;
 mod rest;
+mod texts;
 
 pub use member::{
     put_amount, put_bcd, put_currency, put_flags, put_invoice, put_name, put_optional_amount,

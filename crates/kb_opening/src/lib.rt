@@ -8,11 +8,9 @@
 
 mod fault;
 mod loading;
-mod no_market;
 mod opening;
 mod returning;
 
 pub use fault::Unopened;
-pub use no_market::{NoGateway, NoMarket};
 pub use opening::open_lanes;
 pub use returning::put_back;

@@ -1,5 +1,5 @@
 -- The cases of rules: what each asks, and whether that holds.
-use Rattle.std.specs.Prelude.{ℕ, ◌≡◌, Bool, true, false, ◌&&◌, bytes_eq, List, [], ◌∷◌, find, is_none, Option}
+use Rattle.std.specs.Prelude.{◌≡◌, Bool, true, false, ◌&&◌, bytes_eq, List, [], ◌∷◌, find, is_none, Option}
 use Rattle.std.specs.Prelude.{Some, None, option_map}
 use Rattle.kb_plans.specs.declared.rules.Rules.{Rules}
 use Rattle.kb_plans.specs.declared.rules.PlanCondition.{PlanCondition}

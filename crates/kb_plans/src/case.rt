@@ -3,7 +3,8 @@ ghost use Rattle.std.specs.Prelude.{◌≡◌, ◌&&◌, true, Some, bytes_eq, f
 ghost use Rattle.std.specs.Option.{option_copied};
 ghost use Rattle.kb_plans.specs.Words.{same_category, same_phase, same_period};
 ghost use Rattle.kb_plans.specs.Cases.{Asks, ends_open, asks_of_change, asks_of_plan, asks_of_create};
-ghost use Rattle.kb_plans.specs.Cases.{asks_nothing, asks_nothing_to, is_open, holds, holds_of, holds_to, fits};
+ghost use Rattle.kb_plans.specs.Cases.{asks_nothing, asks_nothing_to, is_open, fits};
+ghost use Rattle.kb_plans.specs.Cases.{holds, holds_of, holds_to};
 
 use crate::{Category, ChangeCase, CreateCase, PhaseType, PlanAsk, PlanCase, PlanCondition};
 use kb_days::{Name, Period};

@@ -1,5 +1,5 @@
-//! Plans: what a version of a catalog is made of, in the words of a shop, and what can be wrong with a part by
-//! itself.
+//! Plans: what a version of a catalog is made of, in the words of a shop, and what can be wrong with a part
+//! by itself.
 //!
 //! The rule kept here: of a list of cases the first one decides whose conditions all hold, and a list that
 //! ends with a case without condition always decides. Layers above put products, plans, price lists and cases

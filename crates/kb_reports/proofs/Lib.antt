@@ -1,4 +1,2 @@
 mod ListedAccounts
 mod PrintedAccounts
-mod FoundBooks
-mod AddedSums

@@ -1,4 +1,3 @@
 pub mod ReportLines
 pub mod Listings
-pub mod Totals
 pub mod Private

@@ -1,5 +1,4 @@
 -- What only private contracts and proofs cite.
 pub mod Fields
-pub mod Adding
 pub mod Collecting
 pub mod Parts

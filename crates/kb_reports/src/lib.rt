@@ -1,4 +1,4 @@
-//! Reports over lanes: balances, arrears and states, and what all accounts add up to.
+//! Reports over lanes: balances, arrears and states.
 //!
 //! The rule kept here: a report is one text for each account, the accounts in the order of their names over
 //! all lanes, and each text is a function of the account's book, the texts of its lane and the day that is
@@ -13,7 +13,6 @@ mod listed;
 mod printing;
 mod report;
 mod states;
-mod totals;
 
 pub use arrears::Arrears;
 pub use balances::Balances;
@@ -21,4 +20,3 @@ pub use listed::Listed;
 pub use printing::{Unprinted, print};
 pub use report::Report;
 pub use states::States;
-pub use totals::Totals;

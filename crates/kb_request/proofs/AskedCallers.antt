@@ -3,7 +3,7 @@ use Rattle.std.proofs.Common.{◌≡◌, Bool, true, false, List, ℕ, Option, N
 use Rattle.std.proofs.Common.{refl, sym, subst, if◌then◌else◌}
 use Rattle.serde_json.specs.Data.{Data, Members}
 use Rattle.serde_json.specs.Find.{as_object}
-use Rattle.kb_catalog.specs.declared.version.Version.{Version}
+use Rattle.kb_valid.specs.declared.version.Version.{Version}
 use Rattle.kb_overdue.specs.declared.state.OverdueState.{OverdueState}
 use Rattle.kb_catalog_text.specs.declared.fault.TextFault.{TextFault}
 use Rattle.kb_catalog_text.specs.Texts.{catalog_read, overdue_read}
@@ -13,15 +13,15 @@ use Rattle.kb_machine.specs.Machines.{is_callers}
 use Rattle.kb_request.specs.declared.fault.JsonFault.TheVariants as json
 use Rattle.kb_request.specs.declared.fault.RequestFault.{RequestFault}
 use Rattle.kb_request.specs.declared.fault.RequestFault.TheVariants as faults
-use Rattle.kb_request.specs.declared.kind.Kind.{Kind}
-use Rattle.kb_request.specs.declared.kind.Kind.TheVariants as kinds
-use Rattle.kb_request.specs.declared.member.Member.TheVariants as member
+use Rattle.kb_kinds.specs.declared.kind.Kind.{Kind}
+use Rattle.kb_kinds.specs.declared.kind.Kind.TheVariants as kinds
+use Rattle.kb_kinds.specs.declared.member.Member.TheVariants as member
 use Rattle.kb_request.specs.declared.request.Request.{Request}
 use Rattle.kb_request.specs.declared.request.What.{What}
 use Rattle.kb_request.specs.declared.request.What.TheVariants as whats
-use Rattle.kb_request.specs.declared.wrong.Wrong.{Wrong}
-use Rattle.kb_request.specs.declared.wrong.Wrong.TheVariants as wrong
-use Rattle.kb_request.specs.Wrongs.{has_unknown, first_wrong, is_known}
+use Rattle.kb_kinds.specs.declared.wrong.Wrong.{Wrong}
+use Rattle.kb_kinds.specs.declared.wrong.Wrong.TheVariants as wrong
+use Rattle.kb_kinds.specs.Wrongs.{has_unknown, first_wrong, is_known}
 use Rattle.kb_request.specs.Asked.{IsAsked, asked, command_asked, query_asked, catalog_of, overdue_of}
 use Rattle.kb_request.specs.Asked.{name_at, text_at, day_at}
 use Rattle.kb_request.specs.Requests.{json_of, kind_in, ask, ask_of_value, ask_of_object, ask_of_kind}

@@ -4,17 +4,17 @@ use Rattle.std.proofs.Common.{is_some, refl}
 use Rattle.std.specs.Prelude.{⊤}
 use Rattle.serde_json.specs.Data.{Data, Members}
 use Rattle.serde_json.specs.Find.{as_str, as_bool}
-use Rattle.kb_request.specs.declared.kind.Kind.{Kind}
-use Rattle.kb_request.specs.declared.member.Member.{Member}
-use Rattle.kb_request.specs.declared.member.Sort.{Sort}
-use Rattle.kb_request.specs.declared.member.Sort.TheVariants as sort
-use Rattle.kb_request.specs.declared.wrong.Wrong.{Wrong}
-use Rattle.kb_request.specs.declared.wrong.Wrong.TheVariants as wrong
-use Rattle.kb_request.specs.Table.{members_of, sort_of}
-use Rattle.kb_request.specs.Values.{name_in, key_in, currency_in, period_in, scope_in, day_in, amount_in}
-use Rattle.kb_request.specs.Values.{invoice_in, bcd_in}
-use Rattle.kb_request.specs.Wrongs.{value_at, has_type, wrong_of_type, wrong_in, wrong_needed, wrong_optional}
-use Rattle.kb_request.specs.Wrongs.{told_first, told_from, wrong_today, first_wrong}
+use Rattle.kb_kinds.specs.declared.kind.Kind.{Kind}
+use Rattle.kb_kinds.specs.declared.member.Member.{Member}
+use Rattle.kb_kinds.specs.declared.member.Sort.{Sort}
+use Rattle.kb_kinds.specs.declared.member.Sort.TheVariants as sort
+use Rattle.kb_kinds.specs.declared.wrong.Wrong.{Wrong}
+use Rattle.kb_kinds.specs.declared.wrong.Wrong.TheVariants as wrong
+use Rattle.kb_kinds.specs.Table.{members_of, sort_of}
+use Rattle.kb_kinds.specs.Values.{name_in, key_in, currency_in, period_in, scope_in, day_in, amount_in}
+use Rattle.kb_kinds.specs.Values.{invoice_in, bcd_in}
+use Rattle.kb_kinds.specs.Wrongs.{value_at, has_type, wrong_of_type, wrong_in, wrong_needed, wrong_optional}
+use Rattle.kb_kinds.specs.Wrongs.{told_first, told_from, wrong_today, first_wrong}
 
 -- nothing is told of two only where nothing is wrong with either
 told_first-nothing : (first second : Wrong) → told_first first second ≡ wrong.Nothing

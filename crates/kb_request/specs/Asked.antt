@@ -7,7 +7,7 @@ use Rattle.serde_json.specs.Find.{as_str, as_bool}
 use Rattle.kb_days.specs.declared.period.Period.{Period}
 use Rattle.kb_days.specs.declared.period.Period.TheVariants.{NoBillingPeriod}
 use Rattle.kb_blocking.specs.declared.state.Flags.{Flags}
-use Rattle.kb_catalog.specs.declared.version.Version.{Version}
+use Rattle.kb_valid.specs.declared.version.Version.{Version}
 use Rattle.kb_overdue.specs.declared.state.OverdueState.{OverdueState}
 use Rattle.kb_catalog_text.specs.declared.fault.TextFault.{TextFault}
 use Rattle.kb_catalog_text.specs.declared.fault.TextFault.TheVariants as texts
@@ -35,15 +35,15 @@ use Rattle.kb_account.specs.declared.query.Query.{Query}
 use Rattle.kb_account.specs.declared.query.Query.TheVariants as queries
 use Rattle.kb_request.specs.declared.fault.RequestFault.{RequestFault}
 use Rattle.kb_request.specs.declared.fault.RequestFault.TheVariants as faults
-use Rattle.kb_request.specs.declared.kind.Kind.{Kind}
-use Rattle.kb_request.specs.declared.kind.Kind.TheVariants as kinds
-use Rattle.kb_request.specs.declared.member.Member.{Member}
-use Rattle.kb_request.specs.declared.member.Member.TheVariants as member
+use Rattle.kb_kinds.specs.declared.kind.Kind.{Kind}
+use Rattle.kb_kinds.specs.declared.kind.Kind.TheVariants as kinds
+use Rattle.kb_kinds.specs.declared.member.Member.{Member}
+use Rattle.kb_kinds.specs.declared.member.Member.TheVariants as member
 use Rattle.kb_request.specs.declared.request.What.{What}
 use Rattle.kb_request.specs.declared.request.What.TheVariants as what
-use Rattle.kb_request.specs.Values.{name_in, currency_in, period_in, scope_in, day_in, bcd_in, amount_in}
-use Rattle.kb_request.specs.Values.{invoice_in}
-use Rattle.kb_request.specs.Wrongs.{value_at}
+use Rattle.kb_kinds.specs.Values.{name_in, currency_in, period_in, scope_in, day_in, bcd_in, amount_in}
+use Rattle.kb_kinds.specs.Values.{invoice_in}
+use Rattle.kb_kinds.specs.Wrongs.{value_at}
 
 -- the value at a member, if it is there
 abbrev pub found : {A : Type 0} → (Data → Option A) → Members → Member → Option A

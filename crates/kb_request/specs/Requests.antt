@@ -9,14 +9,14 @@ use Rattle.kb_request.specs.declared.fault.JsonFault.{JsonFault}
 use Rattle.kb_request.specs.declared.fault.JsonFault.TheVariants as json
 use Rattle.kb_request.specs.declared.fault.RequestFault.{RequestFault}
 use Rattle.kb_request.specs.declared.fault.RequestFault.TheVariants as faults
-use Rattle.kb_request.specs.declared.kind.Kind.{Kind}
-use Rattle.kb_request.specs.declared.member.Member.TheVariants as member
+use Rattle.kb_kinds.specs.declared.kind.Kind.{Kind}
+use Rattle.kb_kinds.specs.declared.member.Member.TheVariants as member
 use Rattle.kb_request.specs.declared.request.Request.{Request}
 use Rattle.kb_request.specs.declared.request.What.{What}
-use Rattle.kb_request.specs.declared.wrong.Wrong.{Wrong}
-use Rattle.kb_request.specs.declared.wrong.Wrong.TheVariants as wrong
-use Rattle.kb_request.specs.Kinds.{kind_named}
-use Rattle.kb_request.specs.Wrongs.{is_known, has_unknown, first_wrong}
+use Rattle.kb_kinds.specs.declared.wrong.Wrong.{Wrong}
+use Rattle.kb_kinds.specs.declared.wrong.Wrong.TheVariants as wrong
+use Rattle.kb_kinds.specs.Kinds.{kind_named}
+use Rattle.kb_kinds.specs.Wrongs.{is_known, has_unknown, first_wrong}
 use Rattle.kb_request.specs.Asked.{asked, day_at}
 
 -- the number of a fault

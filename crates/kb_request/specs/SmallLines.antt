@@ -13,7 +13,8 @@ use Rattle.kb_overdue.specs.ConfigRules.{fault_of, is_broken_at}
 use Rattle.kb_catalog_text.specs.declared.fault.TextFault.TheVariants as text
 use Rattle.kb_tables.specs.Reads.{keys_read, first_failing, required, optional, read_or, read_array}
 use Rattle.kb_tables.specs.Reads.{read_table, read_items}
-use Rattle.kb_catalog_text.specs.OverdueText.{states_in, state_in}
+use Rattle.kb_entries.specs.StateEntries.{state_in}
+use Rattle.kb_catalog_text.specs.OverdueText.{states_in}
 use Rattle.kb_catalog_text.specs.CatalogText.{version_in}
 use Rattle.kb_catalog_text.specs.Texts.{text_read, document_of}
 use Rattle.kb_commands.specs.declared.command.Command.TheVariants as commands
@@ -22,11 +23,11 @@ use Rattle.kb_account.specs.declared.query.Query.TheVariants as queries
 use Rattle.kb_request.specs.declared.fault.JsonFault.TheVariants as json
 use Rattle.kb_request.specs.declared.fault.RequestFault.TheVariants as fault
 use Rattle.kb_request.specs.declared.request.What.TheVariants as what
-use Rattle.kb_request.specs.Kinds.{kind_named}
-use Rattle.kb_request.specs.Values.{text_where, name_in, key_in, currency_in, period_named, period_in}
-use Rattle.kb_request.specs.Values.{scope_named, scope_in, day_in, whole_in, amount_in, invoice_in, bcd_in}
-use Rattle.kb_request.specs.Wrongs.{has_type, wrong_of_type, wrong_in, wrong_needed, wrong_optional}
-use Rattle.kb_request.specs.Wrongs.{wrong_today, first_wrong, has_unknown}
+use Rattle.kb_kinds.specs.Kinds.{kind_named}
+use Rattle.kb_kinds.specs.Values.{text_where, name_in, key_in, currency_in, period_named, period_in}
+use Rattle.kb_kinds.specs.Values.{scope_named, scope_in, day_in, whole_in, amount_in, invoice_in, bcd_in}
+use Rattle.kb_kinds.specs.Wrongs.{has_type, wrong_of_type, wrong_in, wrong_needed, wrong_optional}
+use Rattle.kb_kinds.specs.Wrongs.{wrong_today, first_wrong, has_unknown}
 use Rattle.kb_request.specs.Asked.{asked}
 use Rattle.kb_request.specs.Requests.{json_of, kind_in, ask_of_kind, ask_of_object, ask_of_value, ask}
 

@@ -9,14 +9,12 @@ use crate::commands::{
     credit_at, open_at, pause_at, pay_at, refund_at, resume_at, uncancel_at,
 };
 use crate::found::{name_at, text_at};
-use crate::kind::Kind;
-use crate::member::Member;
-use crate::object::Object;
 use crate::queries::{account_query, invoice_query, payment_query, subscription_query};
 use crate::{RequestFault, What};
 use kb_account::Query;
 use kb_catalog_text::{read, read_overdue};
 use kb_commands::{Catalog, Command, OverdueRules};
+use kb_kinds::{Kind, Member, Object};
 use std::alloc::Global;
 
 /// What a request of a kind asks for.

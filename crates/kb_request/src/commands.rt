@@ -9,12 +9,11 @@ use crate::found::{
     amount_at, amount_if, bcd_at, currency_at, day_at, flags_at, invoice_at, name_at, period_at,
     scope_at, truth_at,
 };
-use crate::member::Member;
-use crate::object::Object;
 use kb_commands::{
     Autopay, Bill, Block, Cancel, Change, Charge, Chargeback, Create, Credit, OpenAccount, Pause,
     Pay, Refund, Resume, Uncancel,
 };
+use kb_kinds::{Member, Object};
 
 /// The account that is opened.
 pub(crate) fn open_at(object: &Object) -> OpenAccount

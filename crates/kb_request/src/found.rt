@@ -4,14 +4,13 @@ ghost use Rattle.serde_json.specs.View.{members_view};
 ghost use Rattle.kb_request.specs.Asked.{name_at, truth_at, day_at, amount_if, currency_at, period_at};
 ghost use Rattle.kb_request.specs.Asked.{scope_at, bcd_at, amount_at, invoice_at, text_at, flags_at};
 
-use crate::member::Member;
-use crate::object::{Object, value_at};
-use crate::values::{
-    amount_in, bcd_in, currency_in, day_in, invoice_in, name_in, period_in, scope_in,
-};
 use kb_blocking::Flags;
 use kb_commands::{Amount, BlockScope, InvoiceNo};
 use kb_days::{Bcd, Day, Name, Period};
+use kb_kinds::{
+    Member, Object, amount_in, bcd_in, currency_in, day_in, invoice_in, name_in, period_in,
+    scope_in, value_at,
+};
 use kb_money::Currency;
 
 /// The name at a member: `DEFAULT` where it is missing, as only a price list may be.

@@ -9,16 +9,9 @@ mod asked;
 mod commands;
 mod fault;
 mod found;
-mod kind;
-mod member;
-mod object;
 mod queries;
 mod reading;
 mod request;
-mod table;
-mod values;
-mod words;
-mod wrong;
 
 pub use fault::{JsonFault, RequestFault};
 pub use reading::read_request;

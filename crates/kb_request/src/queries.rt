@@ -4,9 +4,8 @@ ghost use Rattle.serde_json.specs.View.{members_view};
 ghost use Rattle.kb_request.specs.Asked.{account_query, invoice_query, payment_query, subscription_query};
 
 use crate::found::{day_at, invoice_at, name_at};
-use crate::member::Member;
-use crate::object::Object;
 use kb_account::Query;
+use kb_kinds::{Member, Object};
 
 /// The query for an account.
 pub(crate) fn account_query(object: &Object) -> Query

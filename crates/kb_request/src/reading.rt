@@ -8,11 +8,8 @@ ghost use Rattle.kb_request.specs.Requests.{IsNoJson};
 
 use crate::asked::asked;
 use crate::found::day_at;
-use crate::kind::{Kind, kind_named};
-use crate::member::Member;
-use crate::object::{Object, has_unknown, value_named};
-use crate::wrong::{Wrong, first_wrong};
 use crate::{JsonFault, Request, RequestFault};
+use kb_kinds::{Kind, Member, Object, Wrong, first_wrong, has_unknown, kind_named, value_named};
 use serde_json::Value;
 use std::alloc::Global;
 

@@ -2,11 +2,11 @@
 
 use crate::compare::same;
 use kb_base::Seq;
-use kb_catalog::Version;
 use kb_days::{Day, Name, Period, Span};
 use kb_money::{Currency, Minor};
 use kb_plans::{Category, Phase, PhaseType, Plan, Price, Product, Rules};
 use kb_samples::SampleFault;
+use kb_valid::Version;
 use std::alloc::Global;
 
 #[test]

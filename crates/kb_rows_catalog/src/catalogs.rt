@@ -1,10 +1,11 @@
 //! Catalogs of some versions: the version of a day, and which one may be added.
 
 use crate::compare::same;
-use kb_catalog::{AddFault, Catalog, MAX_VERSIONS, Valid};
+use kb_catalog::{AddFault, Catalog, MAX_VERSIONS};
 use kb_catalog_text::read;
 use kb_days::{Day, text};
 use kb_samples::{DEARER_CLUB, SampleFault, day};
+use kb_valid::Valid;
 use std::alloc::Global;
 use std::process::Abort;
 

@@ -2,10 +2,11 @@
 
 use crate::catalogs::first;
 use crate::compare::same;
-use kb_catalog::{Catalog, Version};
+use kb_catalog::Catalog;
 use kb_money::{Currency, Minor};
 use kb_plans::Phase;
 use kb_samples::{SHOP, SampleFault, catalog, name};
+use kb_valid::Version;
 use std::process::Abort;
 
 /// A product, and whether Support may be had with it, if it is there.

@@ -40,13 +40,6 @@ fn refusal_told(refusal: Refusal) -> &'static str {
         Refusal::NotCancelled => "NotCancelled",
         Refusal::ChangeBlocked => "ChangeBlocked",
         Refusal::PolicyIllegal => "PolicyIllegal",
-        Refusal::KeyReused => "KeyReused",
-        Refusal::NoInvoice => "NoInvoice",
-        Refusal::NothingDue => "NothingDue",
-        Refusal::AttemptOpen => "AttemptOpen",
-        Refusal::NoPayment => "NoPayment",
-        Refusal::PaymentState => "PaymentState",
-        Refusal::AmountTooLarge => "AmountTooLarge",
         _ => "another one",
     }
 }

@@ -1,13 +1,9 @@
-//! Worked rows of requests in JSON.
+//! Worked rows of requests in JSON. In these rows ' stands for ".
 #![tactic(auto)]
 
 #[cfg(test)]
 mod compare;
 #[cfg(test)]
-mod faults;
-#[cfg(test)]
 mod lines;
-#[cfg(test)]
-mod members;
 #[cfg(test)]
 mod spelled;

@@ -1,47 +1,15 @@
-//! Lines, and what is told of what they are read as. In these rows ' stands for ".
+//! What is told of what lines are read as.
 
 use crate::compare::same;
 use kb_account::Query;
 use kb_codec::encode;
 use kb_commands::Command;
 use kb_days::{Day, Name, text};
-use kb_request::{Request, RequestFault, What, read_request};
-use kb_samples::SampleFault;
+use kb_request::{Request, What, read_request};
+use kb_samples::{SampleFault, line};
 use std::alloc::Global;
 use std::process::Abort;
 use std::str;
-
-/// The bytes of a line.
-pub(crate) fn line(alloc: Global, text: &str) -> Result<Vec<u8>, SampleFault> {
-    let mut bytes = Vec::new(alloc);
-    for byte in text.as_bytes() {
-        bytes.push(if *byte == b'\'' { b'"' } else { *byte })?;
-    }
-    Ok(bytes)
-}
-
-/// The number of the fault of some bytes: 1 to 6 as JSON, 11 for a name, 12 for a day, 20 and its own for a
-/// text; 0 if they are a request.
-pub(crate) fn fault_of(alloc: Global, bytes: &[u8], dated: bool) -> Result<u32, SampleFault> {
-    let fault = read_request(alloc, bytes, dated).err();
-    number_of(&fault)
-}
-
-fn number_of(fault: &Option<RequestFault>) -> Result<u32, SampleFault> {
-    match fault {
-        None => Ok(0),
-        Some(RequestFault::Json(fault)) => Ok(fault.number()),
-        Some(RequestFault::BadName) => Ok(11),
-        Some(RequestFault::BadDate) => Ok(12),
-        Some(RequestFault::Text(fault)) => Ok(fault.number().saturating_add(20)),
-        Some(RequestFault::NoMemory) => Err(SampleFault::NoMemory),
-    }
-}
-
-/// The number of the fault of a line.
-pub(crate) fn fault(alloc: Global, text: &str, dated: bool) -> Result<u32, SampleFault> {
-    fault_of(alloc, &line(alloc, text)?, dated)
-}
 
 /// What is looked at in a request.
 #[derive(Clone, Copy)]

@@ -1,8 +1,8 @@
 //! Lines of each kind, and the bytes of the commands that they ask for.
 
 use crate::compare::same;
-use crate::lines::{Look, fault, is_asked, line, looked_at};
-use kb_samples::{OVERDUE, SHOP, SampleFault};
+use crate::lines::{Look, is_asked, looked_at};
+use kb_samples::{OVERDUE, SHOP, SampleFault, line};
 use std::alloc::Global;
 use std::process::Abort;
 use std::test::Fail;
@@ -184,19 +184,6 @@ fn hands_in(rt: &impl Abort, alloc: Global, word: &str, text: &str) -> Result<()
 fn texts_are_read(rt: HostRuntime) -> Result<(), Fail> {
     for (word, text) in [("catalog", SHOP), ("overdue", OVERDUE)] {
         hands_in(&rt, rt.alloc(), word, text)?;
-    }
-    Ok(())
-}
-
-#[test]
-fn texts_that_are_refused(rt: HostRuntime) -> Result<(), Fail> {
-    static ROWS: [(&str, u32); 3] = [
-        ("{'do':'catalog','key':'k1','text':'='}", 21),
-        ("{'do':'catalog','key':'k1','text':'format = 1'}", 22),
-        ("{'do':'overdue','key':'k1','text':'colour = 1'}", 24),
-    ];
-    for (text, number) in &ROWS {
-        same(&rt, &fault(rt.alloc(), text, false)?, number, text);
     }
     Ok(())
 }

@@ -2,7 +2,7 @@
 //! another one. The rows are read by the tests of the shop's text.
 
 use crate::compare::same;
-use kb_catalog::Rule;
+use kb_valid::Rule;
 
 #[test]
 fn the_rules_are_numbered(rt: HostRuntime) {

@@ -8,12 +8,12 @@ mod values;
 
 use crate::compare::same;
 use crate::rules;
-use crate::told::{changed, changes_are_told, is_told, overdue_is_told, split, texts_are_told};
-use kb_catalog::Version;
+use crate::told::{changes_are_told, is_told, overdue_is_told, texts_are_told};
 use kb_catalog_text::{Checked, MAX_BYTES, read};
 use kb_days::{Count, Span};
 use kb_plans::PhaseType;
-use kb_samples::{OVERDUE, SHOP, SampleFault, day};
+use kb_samples::{OVERDUE, SHOP, SampleFault, changed, day, split};
+use kb_valid::Version;
 use std::alloc::Global;
 use std::process::Abort;
 

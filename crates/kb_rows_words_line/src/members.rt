@@ -2,7 +2,8 @@
 
 use crate::compare::same;
 use crate::said::words_of;
-use kb_words::{Report, ReportKind, Within, Words, read_words};
+use kb_options::{ReportKind, Within};
+use kb_words::{Report, Words, read_words};
 use std::test::Fail;
 
 fn report_of(words: Words) -> Option<Report> {

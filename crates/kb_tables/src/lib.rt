@@ -1,8 +1,8 @@
 //! Values at the keys of a text's tables: names, days, numbers, amounts and words.
 //!
-//! The rule kept here: what a value at a key says is exactly what its kind allows, and else a fault that names
-//! the key: it is missing, of another kind or out of range, or not known in its table. Layers above read
-//! tables key by key.
+//! The rule kept here: what a value at a key says is exactly what its kind allows, and else a fault that
+//! names the key: it is missing, of another kind or out of range, or not known in its table. Layers above
+//! read tables key by key.
 #![tactic(auto)]
 
 mod format;

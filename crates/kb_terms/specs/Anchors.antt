@@ -2,7 +2,7 @@
 use Rattle.std.specs.Prelude.{ℕ, ◌≡◌, Option, Some, None, unwrap_or, option_map, option_and_then, slice_get}
 use Rattle.std.specs.Prelude.{refl}
 use Rattle.kb_days.specs.Dates.{march}
-use Rattle.kb_catalog.specs.declared.version.Version.{Version}
+use Rattle.kb_valid.specs.declared.version.Version.{Version}
 use Rattle.kb_plans.specs.declared.rules.ChangeCase.{ChangeCase}
 use Rattle.kb_plans.specs.declared.rules.CreateCase.{CreateCase}
 use Rattle.kb_plans.specs.declared.words.Align.{Align}

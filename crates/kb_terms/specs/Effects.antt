@@ -1,7 +1,7 @@
 -- Policies, and the day on which a change or a cancellation takes effect.
 use Rattle.std.specs.Prelude.{ℕ, ◌≡◌, max, Option, Some, None, unwrap_or, option_and_then, refl}
 use Rattle.kb_days.specs.Dates.{march, april}
-use Rattle.kb_catalog.specs.declared.version.Version.{Version}
+use Rattle.kb_valid.specs.declared.version.Version.{Version}
 use Rattle.kb_plans.specs.declared.rules.ChangeCase.{ChangeCase}
 use Rattle.kb_plans.specs.declared.rules.PlanCase.{PlanCase}
 use Rattle.kb_plans.specs.declared.words.Policy.{Policy}

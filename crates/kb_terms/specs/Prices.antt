@@ -2,7 +2,7 @@
 use Rattle.std.specs.Prelude.{ℕ, ◌≡◌, Bool, true, false, not, ◌&&◌, ◌||◌, List, [], ◌∷◌, codes, Option, Some}
 use Rattle.std.specs.Prelude.{None, is_some, refl}
 use Rattle.std.specs.List.{list_any}
-use Rattle.kb_catalog.specs.declared.version.Version.{Version}
+use Rattle.kb_valid.specs.declared.version.Version.{Version}
 use Rattle.kb_plans.specs.declared.plan.Plan.{Plan}
 use Rattle.kb_plans.specs.declared.phase.Phase.{Phase}
 use Rattle.kb_plans.specs.declared.phase.Price.{Price}

@@ -2,12 +2,13 @@
 use Rattle.std.specs.Prelude.{ℕ, ◌≡◌, List, Option, Some, None, unwrap_or, option_map, option_and_then}
 use Rattle.std.specs.Prelude.{slice_get, refl}
 use Rattle.kb_days.specs.Dates.{march}
-use Rattle.kb_catalog.specs.declared.version.Version.{Version}
+use Rattle.kb_valid.specs.declared.version.Version.{Version}
 use Rattle.kb_plans.specs.declared.product.Product.{Product}
 use Rattle.kb_plans.specs.declared.words.Category.{Category}
 use Rattle.kb_plans.specs.declared.ask.PlanAsk.{PlanAsk}
-use Rattle.kb_catalog.specs.Products.{product_named}
-use Rattle.kb_catalog.specs.LookUp.{version_at, plan_at}
+use Rattle.kb_valid.specs.Products.{product_named}
+use Rattle.kb_catalog.specs.Catalogs.{version_at}
+use Rattle.kb_valid.specs.LookUp.{plan_at}
 use Rattle.kb_timeline.specs.declared.entry.PlanRef.{PlanRef}
 use Rattle.kb_timeline.specs.declared.subscription.Subscription.{Subscription}
 use Rattle.kb_due.specs.Facts.{FactsValue, subscription_at}

@@ -3,9 +3,10 @@ ghost use Rattle.std.specs.Prelude.{◌≡◌};
 ghost use Rattle.kb_terms.specs.Wishes.{category_in, category_on};
 
 use crate::version_on;
-use kb_catalog::{Catalog, Valid};
+use kb_catalog::Catalog;
 use kb_days::{Day, Name};
 use kb_plans::Category;
+use kb_valid::Valid;
 
 /// The category of a product in the version of a day, if that has it.
 pub fn category_on(catalog: &Catalog, day: Day, product: Name) -> Option<Category>

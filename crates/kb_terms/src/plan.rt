@@ -3,9 +3,10 @@ ghost use Rattle.std.specs.Prelude.{◌≡◌, option_copied};
 ghost use Rattle.kb_terms.specs.Wishes.{version_of, plan_asked};
 
 use crate::Wish;
-use kb_catalog::{Catalog, Valid};
+use kb_catalog::Catalog;
 use kb_days::Day;
 use kb_timeline::PlanRef;
+use kb_valid::Valid;
 
 /// The version of a day: the last one effective by then.
 pub fn version_on(catalog: &Catalog, day: Day) -> Option<&Valid>

@@ -4,10 +4,10 @@ ghost use Rattle.kb_terms.specs.Wishes as told;
 ghost use Rattle.kb_terms.specs.Effects.{change_ask, change_policy, cancel_policy};
 
 use crate::{Wish, category_in, version_on};
-use kb_catalog::Valid;
 use kb_days::{Day, Reach};
 use kb_due::{Facts, Governing, ask_of, governing_on};
 use kb_plans::{ChangeAsk, PlanAsk, Policy};
+use kb_valid::Valid;
 
 /// What governs a day of the subscription at a place: none before its start.
 pub(crate) fn governing_of<'a>(facts: &Facts<'a>, sub: u32, day: Reach) -> Option<Governing<'a>>

@@ -6,10 +6,11 @@ use Rattle.std.proofs.Common.{arith, true≢false}
 use Rattle.std.specs.List.{position_from}
 use Rattle.std.proofs.lemmas.Option.{none-some}
 use Rattle.kb_days.specs.declared.period.Period.{Period}
-use Rattle.kb_catalog.specs.declared.version.Version.{Version}
+use Rattle.kb_valid.specs.declared.version.Version.{Version}
 use Rattle.kb_plans.specs.declared.plan.Plan.{Plan}
 use Rattle.kb_plans.specs.declared.price_list.PriceList.{PriceList}
-use Rattle.kb_catalog.specs.LookUp.{version_at, names_sold, both_places, plan_at}
+use Rattle.kb_catalog.specs.Catalogs.{version_at}
+use Rattle.kb_valid.specs.LookUp.{names_sold, both_places, plan_at}
 use Rattle.kb_plans.specs.Plans.{is_asked}
 use Rattle.kb_timeline.specs.declared.entry.PlanRef.{PlanRef}
 use Rattle.kb_due.specs.Governing.{choice_in, choice_of}

@@ -3,7 +3,7 @@ use Rattle.std.proofs.Common.{◌≡◌, ℕ, ◌+◌, List, [], ◌∷◌, ◌+
 use Rattle.std.specs.List.{fold}
 use Rattle.std.proofs.Math.Path.{fun_ext, subst₂}
 use Rattle.kb_days.specs.Calendar.{first_day, charged_days}
-use Rattle.kb_catalog.specs.declared.version.Version.{Version}
+use Rattle.kb_valid.specs.declared.version.Version.{Version}
 use Rattle.kb_commands.specs.declared.command.Command.{Command}
 use Rattle.kb_commands.specs.declared.command.Command.TheVariants as kinds
 use Rattle.kb_commands.specs.declared.command.OpenAccount.{OpenAccount}

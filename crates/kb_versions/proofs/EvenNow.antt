@@ -5,7 +5,7 @@ use Rattle.std.specs.Int.{int_max}
 use Rattle.std.specs.List.{fold}
 use Rattle.std.proofs.lemmas.Int.{ints, clamps}
 use Rattle.kb_days.specs.Calendar.{first_day, charged_days}
-use Rattle.kb_catalog.specs.declared.version.Version.{Version}
+use Rattle.kb_valid.specs.declared.version.Version.{Version}
 use Rattle.kb_credit.specs.declared.line.Line.{Line}
 use Rattle.kb_credit.specs.InvoiceRows.{InvoicesValue, charged, credit, unpaid}
 use Rattle.kb_commands.specs.declared.command.Command.{Command}

@@ -5,7 +5,7 @@ use Rattle.std.proofs.Common.{refl, sym, true≢false}
 use Rattle.std.specs.FinMap.{find}
 use Rattle.std.proofs.lemmas.List.{append-nil}
 use Rattle.kb_sharing.specs.Keys.{by_words}
-use Rattle.kb_catalog.specs.declared.version.Version.{Version}
+use Rattle.kb_valid.specs.declared.version.Version.{Version}
 use Rattle.kb_commands.specs.declared.command.Command.{Command}
 use Rattle.kb_commands.specs.declared.command.Command.TheVariants as kinds
 use Rattle.kb_commands.specs.declared.command.OpenAccount.{OpenAccount}

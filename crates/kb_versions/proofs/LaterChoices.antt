@@ -4,7 +4,7 @@ use Rattle.std.proofs.Common.{IsSome, option_and_then, nat_le, refl, sym, ap, â—
 use Rattle.std.specs.List.{list_all}
 use Rattle.std.proofs.lemmas.List.Elements.{All-filter}
 use Rattle.std.proofs.Math.Path.{fun_ext}
-use Rattle.kb_catalog.specs.declared.version.Version.{Version}
+use Rattle.kb_valid.specs.declared.version.Version.{Version}
 use Rattle.kb_timeline.specs.declared.entry.Entry.{Entry}
 use Rattle.kb_timeline.specs.declared.entry.PlanRef.{PlanRef}
 use Rattle.kb_timeline.specs.declared.subscription.Subscription.{Subscription}

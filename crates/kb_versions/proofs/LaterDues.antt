@@ -4,7 +4,7 @@ use Rattle.std.proofs.Common.{slice_get, Option, Some, None, unwrap_or, option_m
 use Rattle.std.proofs.Common.{if◌then◌else◌, refl, ap, ◌∙◌}
 use Rattle.std.proofs.Math.Path.{fun_ext}
 use Rattle.kb_days.specs.Calendar.{day_of_month, last_charged}
-use Rattle.kb_catalog.specs.declared.version.Version.{Version}
+use Rattle.kb_valid.specs.declared.version.Version.{Version}
 use Rattle.kb_plans.specs.declared.words.BillingAlign.{BillingAlign}
 use Rattle.kb_plans.specs.declared.words.BillingAlign.TheVariants.{Account, Bundle, Subscription as Own}
 use Rattle.kb_plans.specs.Plans.{is_no_period, price_in}

@@ -1,6 +1,6 @@
 -- Accounts are billed by the texts of now, not only by those of their last command.
 use Rattle.std.specs.Prelude.{ℕ, ◌≡◌, List, [], ◌∷◌, Some, true, refl}
-use Rattle.kb_catalog.specs.SmallVersion.{small}
+use Rattle.kb_valid.specs.SmallVersion.{small}
 use Rattle.kb_commands.specs.declared.command.Command.{Command}
 use Rattle.kb_book.specs.Books.{BookValue}
 use Rattle.kb_laws.specs.BilledBooks.{IsBilled}

@@ -1,8 +1,8 @@
 -- The catalog of a machine has the plans of its accounts.
 use Rattle.std.specs.Prelude.{ℕ, ◌≡◌, List, [], ◌∷◌, ◌++◌, Some, codes, refl}
 use Rattle.kb_days.specs.Dates.{march}
-use Rattle.kb_catalog.specs.declared.version.Version.{Version}
-use Rattle.kb_catalog.specs.SmallVersion.{small}
+use Rattle.kb_valid.specs.declared.version.Version.{Version}
+use Rattle.kb_valid.specs.SmallVersion.{small}
 use Rattle.kb_commands.specs.declared.command.Command.{Command}
 use Rattle.kb_commands.specs.declared.command.Command.TheVariants as kinds
 use Rattle.kb_book.specs.Books.{BookValue}

@@ -1,6 +1,6 @@
 -- Catalogs that have the plans of a timeline.
 use Rattle.std.specs.Prelude.{ℕ, ◌≡◌, List, ◌++◌, All, IsSome, is_some, true, false, refl}
-use Rattle.kb_catalog.specs.declared.version.Version.{Version}
+use Rattle.kb_valid.specs.declared.version.Version.{Version}
 use Rattle.kb_timeline.specs.declared.entry.Entry.{Entry}
 use Rattle.kb_timeline.specs.declared.entry.PlanRef.{PlanRef}
 use Rattle.kb_timeline.specs.declared.subscription.Subscription.{Subscription}

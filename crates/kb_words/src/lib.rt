@@ -6,23 +6,12 @@
 //! matches give the values. The layer above reads words by `read_words` and acts on the `Words`.
 #![tactic(auto)]
 
-mod given;
 mod matches;
-mod number;
 mod options;
 mod read;
-mod report_kind;
-mod setting;
-mod text;
 mod values;
-mod verb;
-mod within;
-mod word;
 mod words;
 mod written;
 
 pub use read::{WordsFault, read_words};
-pub use report_kind::ReportKind;
-pub use text::Text;
-pub use within::Within;
 pub use words::{Apply, Bill, Init, Make, Report, Serve, Words};

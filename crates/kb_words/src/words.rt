@@ -1,7 +1,7 @@
 //! What a command line says.
 
-use crate::{ReportKind, Text, Within};
 use kb_days::Day;
+use kb_options::{ReportKind, Text, Within};
 
 /// A command with the values of its options.
 #[derive(Debug, Drop)]

@@ -14,14 +14,14 @@ use crate::top::NO_GATEWAY;
 use kb_days::Day;
 use kb_disk::Disk;
 use kb_endings::Stop;
-use kb_gateway::Gateway;
+use kb_gateway::{Gateway, NoGateway, NoMarket};
 use kb_lane::Lane;
 use kb_lines::Stop as RunStop;
-use kb_opening::{NoGateway, NoMarket, open_lanes, put_back};
+use kb_opening::{open_lanes, put_back};
+use kb_options::ReportKind;
 use kb_ports::Sink;
 use kb_reports::{Arrears, Balances, States, Unprinted, print};
 use kb_vault::Vault;
-use kb_words::ReportKind;
 use std::alloc::Global;
 
 /// Prints a report of all accounts of a folder's lanes, which stay as they are. No gateway is asked anything.

@@ -1,5 +1,5 @@
 -- The members of each kind of command, in order, and how the kinds are read.
-use Rattle.std.specs.Prelude.{ℕ, Bool, List, [], ◌∷◌, ◌++◌, Option, Some, None, slice_get, length}
+use Rattle.std.specs.Prelude.{ℕ, Bool, List, [], ◌∷◌, Option, Some, None, slice_get, length}
 use Rattle.std.specs.Prelude.{◌==◌, if◌then◌else◌}
 use Rattle.std.specs.Option.{option_and_then}
 use Rattle.kb_days.specs.declared.period.Period.{Period}
@@ -9,21 +9,10 @@ use Rattle.kb_catalog_text.specs.Texts.{CatalogText, OverdueText}
 use Rattle.kb_commands.specs.declared.scope.BlockScope.{BlockScope}
 use Rattle.kb_commands.specs.declared.command.Command.{Command}
 use Rattle.kb_commands.specs.declared.command.Command.TheVariants as kinds
-use Rattle.kb_commands.specs.Commands.{IsCatalogText, IsOverdueText}
-use Rattle.kb_members.specs.Members.{text_bytes}
 use Rattle.kb_members.specs.Reading.{Reader, into, chained}
 use Rattle.kb_members.specs.Kinds.{Member, both, optional, name, currency, bcd, day, invoice, amount, truth}
-use Rattle.kb_members.specs.Kinds.{period, scope, status, flags}
-use Rattle.kb_codec.specs.Private.TextReading.{catalog_in, overdue_in}
+use Rattle.kb_members.specs.Kinds.{period, scope, status, flags, catalog, overdue}
 use Rattle.kb_members.specs.Reading as reading
-
--- a catalog text
-abbrev pub catalog : Member CatalogText
-catalog = record { spell = λ text. text_bytes text.text; read = catalog_in; allowed = IsCatalogText }
-
--- an overdue text
-abbrev pub overdue : Member OverdueText
-overdue = record { spell = λ text. text_bytes text.text; read = overdue_in; allowed = IsOverdueText }
 
 -- the members of kind 1
 abbrev pub catalog_text : Member (List ℕ × CatalogText)

@@ -3,10 +3,11 @@
 use super::{ask, two_lists};
 use crate::catalogs::first;
 use crate::compare::same;
-use kb_catalog::{Catalog, Valid};
+use kb_catalog::Catalog;
 use kb_days::Period;
 use kb_plans::{Align, Category, ChangeAsk, PhaseType, Policy};
 use kb_samples::SampleFault;
+use kb_valid::Valid;
 use std::process::Abort;
 
 /// The product, category and phase that govern; the product, period and list that are asked for; and what the

@@ -3,10 +3,11 @@
 use super::{ask, two_lists};
 use crate::catalogs::first;
 use crate::compare::same;
-use kb_catalog::{Catalog, Valid};
+use kb_catalog::Catalog;
 use kb_days::Period;
 use kb_plans::{BillingAlign, Category, CreateAlign, PhaseType, Policy};
 use kb_samples::SampleFault;
+use kb_valid::Valid;
 use std::process::Abort;
 
 /// A plan's product, category, list and phase; and what the rules of one plan give.

@@ -3,10 +3,11 @@
 use super::ask;
 use crate::catalogs::first;
 use crate::compare::same;
-use kb_catalog::{Catalog, Valid};
+use kb_catalog::Catalog;
 use kb_days::Period;
 use kb_plans::{Align, BillingAlign, Category, ChangeAsk, CreateAlign, PlanAsk, Policy};
 use kb_samples::{SHOP, SampleFault, catalog};
+use kb_valid::Valid;
 use std::process::Abort;
 
 /// The product of an annual plan that governs, and its category; the product and period that are asked for;

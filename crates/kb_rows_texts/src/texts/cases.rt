@@ -1,7 +1,7 @@
 //! The cases of the five rule lists: each condition, and what a case gives.
 
-use crate::told::{is_told, split};
-use kb_samples::{SHOP, SampleFault};
+use crate::told::is_told;
+use kb_samples::{SHOP, SampleFault, split};
 use std::alloc::Global;
 use std::process::Abort;
 

@@ -1,7 +1,7 @@
 //! Each key of each table but the cases: missing, of a wrong kind, or beside an unknown one.
 
-use crate::told::{is_told, replaced};
-use kb_samples::{SHOP, SampleFault};
+use crate::told::is_told;
+use kb_samples::{SHOP, SampleFault, replaced};
 
 pub(crate) const KEYS_AT_THE_TOP: [(&str, &str, &str); 28] = [
     ("format = 1\n", "", "2 format"),

@@ -1,7 +1,7 @@
 -- What is found among the versions that are left, else what was found, is what all give.
 use Rattle.std.proofs.Common.{◌≡◌, drop, map}
 use Rattle.std.specs.Arc.{arc_value}
-use Rattle.kb_catalog.specs.LookUp.{version_at, version_at_from}
+use Rattle.kb_catalog.specs.Catalogs.{version_at, version_at_from}
 use Rattle.kb_catalog.proofs.Latest.{or_found}
 use Rattle.kb_catalog.proofs.catalog.latest.Given as goal
 

@@ -1,0 +1,3 @@
+pub mod CatalogEntries
+pub mod StateEntries
+pub mod SmallEntries

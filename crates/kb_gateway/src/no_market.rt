@@ -1,0 +1,50 @@
+//! A market for runs that ask for no money.
+ghost use Rattle.std.specs.Prelude.{◌≡◌, ⊤, None, Ok, IfOk, IsOk};
+ghost use Rattle.kb_gateway.specs.declared.told.Told.TheVariants as told;
+ghost use Rattle.kb_gateway.specs.declared.told.Seen.TheVariants as seen;
+
+use crate::{Gateway, Market, Order, Seen, Told};
+use kb_base::Failed;
+
+/// A gateway that no order reaches: each is answered as canceled, and none was seen. It never fails.
+#[derive(Clone, Copy, Debug, Drop)]
+pub struct NoGateway;
+
+impl Gateway for NoGateway {
+    ghost asked = { λ gateway. None };
+
+    ghost said = { λ gateway. None };
+
+    ghost faults = { λ gateway. 0 };
+
+    fn ask(&mut self, order: &Order) -> Result<Told, Failed>
+        ensures { result ≡ Ok told.Canceled }
+    {
+        Ok(Told::Canceled)
+    }
+
+    fn look_up(&mut self, order: &Order) -> Result<Seen, Failed>
+        ensures { result ≡ Ok seen.NotSeen }
+    {
+        Ok(Seen::NotSeen)
+    }
+}
+
+/// A market that gives each lane a gateway that no order reaches. It never fails.
+#[derive(Clone, Copy, Debug, Drop)]
+pub struct NoMarket;
+
+impl Market for NoMarket {
+    type Gateway = NoGateway;
+
+    ghost faults = { λ market. 0 };
+
+    ghost serves = { λ gateway name lane. ⊤ };
+
+    fn gateway(&mut self, name: &str, lane: u32) -> Result<NoGateway, Failed>
+        ensures made { IsOk result }
+        ensures served { IfOk result (λ _. ⊤) }
+    {
+        Ok(NoGateway)
+    }
+}

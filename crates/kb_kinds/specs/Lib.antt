@@ -1,0 +1,4 @@
+pub mod Kinds
+pub mod Table
+pub mod Values
+pub mod Wrongs

@@ -1,0 +1,4 @@
+pub mod Commands
+pub mod Options
+pub mod Values
+pub mod Tokens

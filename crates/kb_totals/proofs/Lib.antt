@@ -1,0 +1,2 @@
+mod FoundBooks
+mod AddedSums
