@@ -1,4 +1,5 @@
 mod Accounts
+mod Beside
 pub mod Continuing
 mod LaneLoops
 mod Served

@@ -1,9 +1,7 @@
 -- Lanes that answer lines: what each line does to them, and what is said.
-use Rattle.std.specs.Prelude.{ℕ, zero, suc, ◌+◌, ◌-◌, ◌≡◌, ◌≤◌, ◌⊎◌, ◌||◌, Bool, true, false, List, length}
-use Rattle.std.specs.Prelude.{slice_get, Option, Some, None}
-use Rattle.std.specs.Prelude.{Result, Ok, Err, IfSome, if◌then◌else◌, ⊤}
+use Rattle.std.specs.Prelude.{ℕ, zero, suc, ◌+◌, ◌-◌, ◌≡◌, ◌⊎◌, ◌||◌, Bool, true, false, List, length}
+use Rattle.std.specs.Prelude.{slice_get, Option, Some, Result, Ok, Err, ⊤}
 use Rattle.kb_base.specs.Machine.{Machine}
-use Rattle.kb_days.specs.Calendar.{first_day, last_day}
 use Rattle.kb_gateway.specs.declared.order.Asked.{Asked}
 use Rattle.kb_gateway.specs.declared.told.Saying.{Saying}
 use Rattle.kb_commands.specs.declared.command.Command.{Command}
@@ -19,6 +17,8 @@ use Rattle.kb_lane.specs.Replies.{Performs}
 use Rattle.kb_lane.specs.LookingUp.{LooksAllUp}
 use Rattle.kb_lane.specs.Reading.{asked_account, view_of}
 use Rattle.kb_bills.specs.Drains.{Drains}
+use Rattle.kb_clock.specs.NamedDays.{IsDayOf}
+use Rattle.kb_lanes.specs.Addressed.{account_on, first_lane, lanes_on}
 use Rattle.kb_lanes.specs.Continuing.{Continues}
 use Rattle.kb_lanes.specs.Places.{GoesAt, is_full_reply, is_full_step, is_taken_text}
 use Rattle.kb_desk.specs.Lanes.{lane_of}
@@ -133,21 +133,6 @@ DrainPart outside today place (suc more) old new = (new ≡ old)
     ⊎ ((between : LanesValue _ _ _) × (step : Step) × DrainsAt outside today place old between step
     × DrainPart outside today (place + 1) more between new)
 
--- the account that a request is on; a text and the looking up of payments are on all lanes
-abbrev pub account_on : What → Option (List ℕ)
-account_on (whats.Command command) = if is_text command then None else Some (account_of command)
-account_on (whats.Query query) = Some (asked_account query)
-account_on whats.Janitor = None
-
--- the first of the lanes that a request is on, and how many there are
-abbrev pub first_lane : ℕ → Option (List ℕ) → ℕ
-first_lane lanes None = 0
-first_lane lanes (Some account) = lane_of account lanes
-
-abbrev pub lanes_on : ℕ → Option (List ℕ) → ℕ
-lanes_on lanes None = lanes
-lanes_on lanes (Some account) = 1
-
 -- what is said to a query: the view, or its refusal, unless memory ran out
 abbrev pub IsShown : Result View Refusal → Said → Type 0
 IsShown (Ok view) (says.View shown) = shown ≡ view
@@ -179,12 +164,6 @@ Serves outside today (whats.Query query) old new spoken =
 Serves outside today whats.Janitor old new spoken = (step : Step) × (spoken ≡ says.Janitor step)
     × LookUpFrom outside today 0 (length old.lanes) old new step
 
--- the day of a request: the one that it names, or one that the clock gave
-abbrev pub IsDayOf : {D G C : Type 0} → Outside D G C → C → Option ℕ → ℕ → Type 0
-IsDayOf outside clock (Some named) today = today ≡ named
-IsDayOf outside clock None today = (first_day ≤ today) × (today ≤ last_day)
-    × IfSome (outside.day clock) (λ told. today ≡ told)
-
 -- What a line does, once it is read: a fault is said, and a request is served on its day and said, and then
 -- the outboxes of the lanes that it is on are drained.
 abbrev pub Answers : {D G C : Type 0} → Outside D G C → LanesValue D G C → Result Request RequestFault
@@ -192,7 +171,7 @@ abbrev pub Answers : {D G C : Type 0} → Outside D G C → LanesValue D G C →
     → LanesValue D G C → Type 0
 Answers outside old (Err fault) text new = Says (says.Fault fault) text × (new ≡ old)
 Answers outside old (Ok request) text new = (today : ℕ) × (served : LanesValue _ _ _) × (spoken : Said)
-    × IsDayOf outside old.clock request.today today × Serves outside today request.what old served spoken
+    × IsDayOf outside.day old.clock request.today today × Serves outside today request.what old served spoken
     × Says spoken text
     × DrainFrom outside today (first_lane (length old.lanes) (account_on request.what))
     (lanes_on (length old.lanes) (account_on request.what)) served new
@@ -205,7 +184,7 @@ AnswersPart outside old (Err fault) part new = ((text : List ℕ) × Says (says.
     × IsPartOf part text)
     × (new ≡ old)
 AnswersPart outside old (Ok request) part new = (today : ℕ) × (served : LanesValue _ _ _) × (spoken : Said)
-    × IsDayOf outside old.clock request.today today × Serves outside today request.what old served spoken
+    × IsDayOf outside.day old.clock request.today today × Serves outside today request.what old served spoken
     × ((text : List ℕ) × Says spoken text × IsPartOf part text)
     × DrainPart outside today (first_lane (length old.lanes) (account_on request.what))
     (lanes_on (length old.lanes) (account_on request.what)) served new

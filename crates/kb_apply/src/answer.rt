@@ -1,23 +1,22 @@
 //! Lines, answered one after another.
-ghost use Rattle.std.specs.Prelude.{◌≡◌, ◌++◌, ◌+◌, ◌≤◌, List, ℕ, OnOk, OnErr, Ok, true, length};
+ghost use Rattle.std.specs.Prelude.{◌≡◌, ◌++◌, ◌+◌, List, ℕ, OnOk, OnErr, Ok, true, length};
 ghost use Rattle.kb_machine.specs.Machines.{is_callers, is_text};
 ghost use Rattle.kb_desk.specs.Lanes.{lane_of};
 ghost use Rattle.kb_lane.specs.Reading.{asked_account};
-ghost use Rattle.kb_apply.specs.LaneRuns.{outside_of, account_on, first_lane, lanes_on, Answers, AnswersPart};
+ghost use Rattle.kb_apply.specs.LaneRuns.{outside_of, Answers, AnswersPart, IsShownAt, Serves, ServesCommand};
 ghost use Rattle.kb_request.specs.Callers.{IsCallers};
-ghost use Rattle.kb_apply.specs.LaneRuns.{IsShownAt, Serves, ServesCommand};
 
 use crate::Lanes;
-use crate::account::{account_of, account_on};
 use kb_account::Query;
 use kb_base::NoMemory;
 use kb_book::Unprepared;
-use kb_clock::Clock;
+use kb_clock::{Clock, day_or_today};
 use kb_commands::Command;
 use kb_days::Day;
 use kb_disk::Disk;
 use kb_gateway::Gateway;
 use kb_lane::account_asked;
+use kb_lanes::{account_of, lanes_of, place_of};
 use kb_lines::LineMachine;
 use kb_reply::LaneReply;
 use kb_request::{Request, RequestFault, What, read_request};
@@ -55,24 +54,13 @@ impl<D: Disk, G: Gateway + Drop, C: Clock + Drop> Lanes<D, G, C> {
             × AnswersPart (outside_of D.honest D.moment D.left_since D.fault_count G.asked G.said G.faults
             C.day) self.old (Ok request.now) part self.new) }
     {
-        let today = self.day_of(request.today);
-        let (first, count) = self.lanes_of(&request.what);
+        let today = day_or_today(&self.clock, request.today);
+        let count = self.count();
+        let (first, some) = lanes_of(&request.what, count);
         let spoken = self.reply_to(alloc, today, &request.what);
         match tell(alloc, spoken, said) {
-            Ok(()) => self.drain_from(alloc, today, first, count),
+            Ok(()) => self.drain_from(alloc, today, first, some),
             Err(fault) => Err(fault),
-        }
-    }
-
-    /// The first of the lanes that a request is on, and how many there are.
-    fn lanes_of(&self, what: &What) -> (usize, usize)
-        ensures first { result.0 ≡ first_lane (length self.now.lanes) (account_on what.now) }
-        ensures count { result.1 ≡ lanes_on (length self.now.lanes) (account_on what.now) }
-        ensures within { result.0 + result.1 ≤ length self.now.lanes }
-    {
-        match account_on(what) {
-            Some(account) => (self.place_of(account), 1),
-            None => (0, self.count()),
         }
     }
 
@@ -101,7 +89,8 @@ impl<D: Disk, G: Gateway + Drop, C: Clock + Drop> Lanes<D, G, C> {
     {
         match account_of(command) {
             Some(account) => {
-                let place = self.place_of(account);
+                let count = self.count();
+                let place = place_of(account, count);
                 self.perform_at(alloc, today, command, place)
             }
             None => self.perform_on_all(alloc, today, command),
@@ -113,7 +102,8 @@ impl<D: Disk, G: Gateway + Drop, C: Clock + Drop> Lanes<D, G, C> {
         ensures { IsShownAt today query.now (lane_of (asked_account query.now) (length self.now.lanes))
             self.now.lanes result }
     {
-        let place = self.place_of(account_asked(query));
+        let count = self.count();
+        let place = place_of(account_asked(query), count);
         match self.lanes[place].read(alloc, today, query) {
             Ok(view) => Said::View(view),
             Err(Unprepared::Refused(refusal)) => Said::Refused(refusal),

@@ -1,14 +1,11 @@
 //! Lanes, beside the clock by which they answer.
 ghost use Rattle.std.specs.Prelude.{◌≡◌, ◌≤◌, ◌<◌, true, false, length};
 ghost use Rattle.kb_machine.specs.Machines.{is_callers};
-ghost use Rattle.kb_desk.specs.Lanes.{lane_of};
-ghost use Rattle.kb_apply.specs.LaneRuns.{outside_of, IsDayOf};
-ghost use Rattle.kb_apply.specs.LaneRuns.{PerformsAt};
+ghost use Rattle.kb_apply.specs.LaneRuns.{outside_of, PerformsAt};
 
 use kb_clock::Clock;
 use kb_commands::Command;
-use kb_days::{Day, Name};
-use kb_desk::lane_of;
+use kb_days::Day;
 use kb_disk::Disk;
 use kb_gateway::Gateway;
 use kb_lane::Lane;
@@ -72,25 +69,6 @@ impl<D: Disk, G: Gateway + Drop, C: Clock + Drop> Lanes<D, G, C> {
         ensures few { result ≤ 64 }
     {
         self.lanes.len()
-    }
-
-    /// The place of the lane of an account.
-    pub(crate) fn place_of(&self, account: Name) -> usize
-        ensures place { result ≡ lane_of account (length self.now.lanes) }
-        ensures within { result < length self.now.lanes }
-    {
-        lane_of(account, self.lanes.len() as u32) as usize
-    }
-
-    /// The day of a request: the one that it names, or today by the clock.
-    pub(crate) fn day_of(&self, named: Option<Day>) -> Day
-        ensures { IsDayOf (outside_of D.honest D.moment D.left_since D.fault_count G.asked G.said G.faults
-            C.day) self.now.clock named result }
-    {
-        match named {
-            Some(day) => day,
-            None => self.clock.today(),
-        }
     }
 
     /// The lane at a place performs a command.

@@ -6,7 +6,6 @@
 //! make the lanes and end the run.
 #![tactic(auto)]
 
-mod account;
 mod answer;
 mod apply;
 mod drains;

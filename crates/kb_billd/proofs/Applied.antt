@@ -19,7 +19,7 @@ use Rattle.kb_lanes.specs.Stops.{any_stopped}
 use Rattle.kb_lanes.specs.Continuing.{Continues, ContinueAll}
 use Rattle.kb_apply.specs.LaneRuns.{LanesValue, Outside, outside_of, lanes_machine}
 use Rattle.kb_apply.proofs.Continuing.{done_continues, stopped_continues}
-use Rattle.kb_opening.specs.Folders.{VaultTold, DiskWords, words_of}
+use Rattle.kb_loading.specs.Folders.{VaultTold, DiskWords, words_of}
 use Rattle.kb_opening.specs.Openings.{AreOpened, AreServed}
 use Rattle.kb_opening.proofs.Closing.{as_out_as_before, others_as_before}
 use Rattle.kb_billd.specs.Runs.{RunsLanes}

@@ -10,9 +10,9 @@ use Rattle.kb_words.specs.declared.words.Words.TheVariants as words
 use Rattle.kb_apply.specs.declared.apply.ApplyStop.{ApplyStop}
 use Rattle.kb_apply.specs.declared.apply.ApplyStop.TheVariants as applied
 use Rattle.kb_apply.specs.LaneRuns.{Outside}
-use Rattle.kb_opening.specs.declared.fault.Unopened.{Unopened}
-use Rattle.kb_opening.specs.declared.fault.Unopened.TheVariants as unopened
-use Rattle.kb_opening.specs.Folders.{VaultTold, DiskWords}
+use Rattle.kb_loading.specs.declared.fault.Unopened.{Unopened}
+use Rattle.kb_loading.specs.declared.fault.Unopened.TheVariants as unopened
+use Rattle.kb_loading.specs.Folders.{VaultTold, DiskWords}
 use Rattle.kb_opening.specs.Openings.{IsCause}
 use Rattle.kb_endings.specs.declared.stop.Stop.{Stop}
 use Rattle.kb_endings.specs.declared.stop.Stop.TheVariants as stops

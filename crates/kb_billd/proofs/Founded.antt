@@ -5,7 +5,7 @@ use Rattle.kb_catalog_text.specs.declared.fault.TextFault.{TextFault}
 use Rattle.kb_lines.specs.declared.stop.Stop.TheVariants as runs
 use Rattle.kb_words.specs.declared.words.Init.{Init}
 use Rattle.kb_vault.specs.Places.{SameLanes}
-use Rattle.kb_opening.specs.Folders.{VaultTold}
+use Rattle.kb_loading.specs.Folders.{VaultTold}
 use Rattle.kb_founding.specs.declared.fault.Unfounded.{Unfounded}
 use Rattle.kb_founding.specs.declared.fault.Unfounded.TheVariants as unfounded
 use Rattle.kb_founding.specs.Foundings.{FoundsWith, IsLeft, CountsFaults}

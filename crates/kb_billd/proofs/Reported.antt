@@ -5,7 +5,7 @@ use Rattle.kb_lane.specs.Lanes.{LaneValue, machine_of}
 use Rattle.kb_lines.specs.Reading.{Known}
 use Rattle.kb_lines.specs.declared.stop.Stop.TheVariants as runs
 use Rattle.kb_gateway.specs.declared.no_market.NoGateway.{NoGateway}
-use Rattle.kb_opening.specs.Folders.{VaultTold, DiskWords}
+use Rattle.kb_loading.specs.Folders.{VaultTold, DiskWords}
 use Rattle.kb_opening.specs.Openings.{AreBack, AreOpened}
 use Rattle.kb_opening.proofs.Unchanged.{unchanged, uncounted}
 use Rattle.kb_reports.specs.declared.printing.Unprinted.{Unprinted}

@@ -7,7 +7,7 @@ use Rattle.kb_lines.specs.Reading.{Known}
 use Rattle.kb_words.specs.declared.words.Init.{Init}
 use Rattle.kb_words.specs.declared.words.Make.{Make}
 use Rattle.kb_words.specs.declared.words.Report.{Report}
-use Rattle.kb_opening.specs.Folders.{VaultTold, DiskWords}
+use Rattle.kb_loading.specs.Folders.{VaultTold, DiskWords}
 use Rattle.kb_endings.specs.declared.stop.Stop.{Stop}
 use Rattle.kb_billd.specs.Foundings.{FoundsFolder}
 use Rattle.kb_billd.specs.Reports.{ReportsFolder, said_by}

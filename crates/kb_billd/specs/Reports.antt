@@ -7,10 +7,11 @@ use Rattle.kb_lines.specs.Reading.{Known}
 use Rattle.kb_lines.specs.declared.stop.Stop.TheVariants as runs
 use Rattle.kb_options.specs.declared.report_kind.ReportKind.{ReportKind}
 use Rattle.kb_options.specs.declared.report_kind.ReportKind.TheVariants as kinds
-use Rattle.kb_opening.specs.declared.fault.Unopened.{Unopened}
+use Rattle.kb_loading.specs.declared.fault.Unopened.{Unopened}
 use Rattle.kb_gateway.specs.declared.no_market.NoGateway.{NoGateway}
-use Rattle.kb_opening.specs.Folders.{VaultTold, DiskWords}
-use Rattle.kb_opening.specs.Openings.{IsOpened, IsAsBefore, IsCause, IsFirstOfThem}
+use Rattle.kb_loading.specs.Folders.{VaultTold, DiskWords}
+use Rattle.kb_loading.specs.OneLane.{IsOpened}
+use Rattle.kb_opening.specs.Openings.{IsAsBefore, IsCause, IsFirstOfThem}
 use Rattle.kb_reports.specs.declared.printing.Unprinted.{Unprinted}
 use Rattle.kb_reports.specs.declared.printing.Unprinted.TheVariants as unprinted
 use Rattle.kb_reports.specs.Listings.{Said, Prints, PrintsPart}

@@ -18,10 +18,11 @@ use Rattle.kb_apply.specs.declared.apply.ApplyStop.TheVariants as applied
 use Rattle.kb_apply.specs.Applying.{Applies}
 use Rattle.kb_lanes.specs.Continuing.{Continues, ContinueAll}
 use Rattle.kb_apply.specs.LaneRuns.{LanesValue, Outside, lanes_machine}
-use Rattle.kb_opening.specs.declared.fault.Unopened.{Unopened}
-use Rattle.kb_opening.specs.declared.fault.Unopened.TheVariants as unopened
-use Rattle.kb_opening.specs.Folders.{VaultTold, DiskWords}
-use Rattle.kb_opening.specs.Openings.{AreServed, IsOpened, IsAsBefore, IsCause, IsFirstOfThem}
+use Rattle.kb_loading.specs.declared.fault.Unopened.{Unopened}
+use Rattle.kb_loading.specs.declared.fault.Unopened.TheVariants as unopened
+use Rattle.kb_loading.specs.Folders.{VaultTold, DiskWords}
+use Rattle.kb_loading.specs.OneLane.{IsOpened}
+use Rattle.kb_opening.specs.Openings.{AreServed, IsAsBefore, IsCause, IsFirstOfThem}
 use Rattle.kb_endings.specs.declared.stop.Stop.{Stop}
 use Rattle.kb_endings.specs.declared.stop.Stop.TheVariants as stops
 

@@ -13,7 +13,7 @@ use Rattle.kb_words.specs.declared.words.Words.{Words}
 use Rattle.kb_words.specs.declared.words.Words.TheVariants as words
 use Rattle.kb_vault.specs.Places.{SameLanes, SameFiles}
 use Rattle.kb_apply.specs.LaneRuns.{Outside, outside_of}
-use Rattle.kb_opening.specs.Folders.{VaultTold, DiskWords}
+use Rattle.kb_loading.specs.Folders.{VaultTold, DiskWords}
 use Rattle.kb_gateway.specs.declared.no_market.NoGateway.{NoGateway}
 use Rattle.kb_endings.specs.Endings.{Closes}
 use Rattle.kb_endings.specs.declared.stop.Stop.{Stop}

@@ -5,7 +5,7 @@ ghost use Rattle.kb_base.specs.Faults.{Rose};
 ghost use Rattle.kb_apply.specs.LaneRuns.{outside_of};
 ghost use Rattle.kb_lines.specs.declared.stop.Stop.TheVariants.{Input, Output};
 ghost use Rattle.kb_vault.specs.Places.{SameLanes};
-ghost use Rattle.kb_opening.specs.Folders.{told_of, words_of};
+ghost use Rattle.kb_loading.specs.Folders.{told_of, words_of};
 ghost use Rattle.kb_words.specs.Grammar.{words_of as words_read};
 ghost use Rattle.kb_endings.specs.declared.stop.Stop.TheVariants as stops;
 ghost use Rattle.kb_billd.specs.TopCall.{alone, around_of, gateway_of, AppliesBy, Begins, Does, Ends};

@@ -1,1 +1,2 @@
+pub mod NamedDays
 pub mod Times

@@ -8,9 +8,11 @@
 mod clock;
 mod day_of_time;
 mod fixed_clock;
+mod named_day;
 mod system_clock;
 
 pub use clock::Clock;
 pub use day_of_time::day_at;
 pub use fixed_clock::FixedClock;
+pub use named_day::day_or_today;
 pub use system_clock::SystemClock;

@@ -1,3 +1,4 @@
+pub mod Addressed
 pub mod Continuing
 pub mod Places
 pub mod Stops

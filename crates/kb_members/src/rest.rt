@@ -199,7 +199,7 @@ impl<'a> Rest<'a> {
 
     /// The bytes of a text.
     #[tactic(auto, unfolding(crate::specs::Reading::text_in))]
-    pub fn text(&mut self) -> Option<&'a [u8]>
+    pub(crate) fn text(&mut self) -> Option<&'a [u8]>
         ensures { Reads text_in self.old (option_copied result) self.new }
     {
         let count = self.four()?;

@@ -2,14 +2,15 @@
 use Rattle.std.proofs.Common.{◌≡◌, ◌<◌, ℕ, true, false, Bool, List, length, arith, refl, sym, subst, ◌∙◌}
 use Rattle.kb_base.specs.Faults.{Rose}
 use Rattle.kb_lane.specs.Lanes.{LaneValue}
-use Rattle.kb_opening.specs.declared.fault.Unopened.{Unopened}
-use Rattle.kb_opening.specs.declared.fault.Unopened.TheVariants as faults
+use Rattle.kb_loading.specs.declared.fault.Unopened.{Unopened}
+use Rattle.kb_loading.specs.declared.fault.Unopened.TheVariants as faults
 use Rattle.kb_vault.specs.Places.{is_among}
-use Rattle.kb_opening.specs.Folders.{VaultTold, DiskWords}
-use Rattle.kb_opening.specs.Openings.{AreBack, IsAsBefore, IsCause, TellsNoOther}
+use Rattle.kb_loading.specs.Folders.{VaultTold, DiskWords}
+use Rattle.kb_loading.specs.OneLane.{TellsNoOther}
+use Rattle.kb_opening.specs.Openings.{AreBack, IsAsBefore, IsCause}
 use Rattle.kb_opening.specs.Private.AllLanes.{HasStopped}
-use Rattle.kb_opening.proofs.Amongs.{among, of_folder, not_among_fewer, told_before, told_now}
-use Rattle.kb_opening.proofs.GivenBack.{tells_no_other}
+use Rattle.kb_loading.proofs.Amongs.{among, of_folder, not_among_fewer, told_before, told_now}
+use Rattle.kb_loading.proofs.GivenBack.{tells_no_other}
 use Rattle.kb_opening.proofs.Places.{some_at}
 
 module _ {D G : Type 0} (words : DiskWords D) (folder : List ℕ) (old mid new : VaultTold)

@@ -2,9 +2,9 @@
 use Rattle.std.proofs.Common.{◌≡◌, ◌<◌, ℕ, true, false, Bool, List, length, None, refl, sym, subst, ◌∙◌}
 use Rattle.kb_vault.specs.Places.{is_among, SameLanes}
 use Rattle.kb_lane.specs.Lanes.{LaneValue}
-use Rattle.kb_opening.specs.Folders.{VaultTold, DiskWords}
+use Rattle.kb_loading.specs.Folders.{VaultTold, DiskWords}
 use Rattle.kb_opening.specs.Openings.{AreOpened, AreBack}
-use Rattle.kb_opening.proofs.Amongs.{among, of_folder, told_before, told_now}
+use Rattle.kb_loading.proofs.Amongs.{among, of_folder, told_before, told_now}
 
 -- lanes that are open are out
 pub are_out : {D G : Type 0} (words : DiskWords D) (folder : List ℕ) (count : ℕ) (old mid : VaultTold)

@@ -1,11 +1,8 @@
-mod Amongs
+mod Added
 mod AsBefore
 pub mod Closing
-mod GivenBack
-mod LeftIn
 mod Opened
 mod Places
 mod Returned
 mod Served
 pub mod Unchanged
-mod Unloaded

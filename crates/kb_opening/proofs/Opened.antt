@@ -11,17 +11,16 @@ use Rattle.kb_machine.specs.Machines.{no_machine}
 use Rattle.kb_machine.specs.Histories.{AreNewFrom}
 use Rattle.kb_lane.specs.Lanes.{LaneValue}
 use Rattle.kb_lane.specs.Loads.{IsNoLane}
-use Rattle.kb_opening.specs.declared.fault.Unopened.{Unopened}
-use Rattle.kb_opening.specs.declared.fault.Unopened.TheVariants as faults
-use Rattle.kb_opening.specs.Folders.{VaultTold, DiskWords, with_lanes}
-use Rattle.kb_opening.specs.Openings.{IsOpened, AreOpened, TellsNoOther, TellsOtherLanes, IsCause}
-use Rattle.kb_opening.specs.Openings.{IsLaneBeside, IsFirstOfThem}
+use Rattle.kb_loading.specs.declared.fault.Unopened.{Unopened}
+use Rattle.kb_loading.specs.declared.fault.Unopened.TheVariants as faults
+use Rattle.kb_loading.specs.Folders.{VaultTold, DiskWords, with_lanes}
+use Rattle.kb_loading.specs.OneLane.{IsOpened, TellsNoOther, TakesOut, IsLeftIn, IsLaneCause}
+use Rattle.kb_opening.specs.Openings.{AreOpened, TellsOtherLanes, IsCause, IsLaneBeside, IsFirstOfThem}
 use Rattle.kb_opening.specs.Private.AllLanes.{AddsLane, HasStopped}
-use Rattle.kb_opening.specs.Private.OneLane.{TakesOut, IsLeftIn, IsLaneCause}
-use Rattle.kb_opening.proofs.Amongs.{not_among, not_among_fewer, not_place, told_at, told_before}
-use Rattle.kb_opening.proofs.Amongs.{told_elsewhere, told_more}
-use Rattle.kb_opening.proofs.GivenBack.{reads_them, same_tells}
-use Rattle.kb_opening.proofs.LeftIn.{tells_lanes}
+use Rattle.kb_loading.proofs.Amongs.{not_among, not_among_fewer, not_place, told_at, told_before}
+use Rattle.kb_loading.proofs.Amongs.{told_elsewhere, told_more}
+use Rattle.kb_loading.proofs.GivenBack.{reads_them, same_tells}
+use Rattle.kb_loading.proofs.LeftIn.{tells_lanes}
 use Rattle.kb_opening.proofs.Places.{at_snoc, length_snoc, some_at}
 
 -- no lane is open yet

@@ -8,11 +8,11 @@ use Rattle.kb_log.specs.Logs.{StandsForLog}
 use Rattle.kb_gateway.specs.declared.order.Asked.{Asked}
 use Rattle.kb_lane.specs.Asking.{WasAskedOnce}
 use Rattle.kb_lane.specs.Lanes.{LaneValue, opened_of}
-use Rattle.kb_opening.specs.Folders.{VaultTold, DiskWords, with_lanes}
+use Rattle.kb_loading.specs.Folders.{VaultTold, DiskWords, with_lanes}
 use Rattle.kb_opening.specs.Openings.{AreBack, AskedOnceEach}
-use Rattle.kb_opening.specs.Private.OneLane.{TakesBack}
-use Rattle.kb_opening.proofs.Amongs.{not_among, not_among_fewer, not_place, apart, told_before}
-use Rattle.kb_opening.proofs.Amongs.{told_elsewhere, told_more}
+use Rattle.kb_loading.specs.OneLane.{TakesBack}
+use Rattle.kb_loading.proofs.Amongs.{not_among, not_among_fewer, not_place, apart, told_before}
+use Rattle.kb_loading.proofs.Amongs.{told_elsewhere, told_more}
 use Rattle.kb_opening.proofs.Places.{at_snoc, at_before, at_end, within, length_snoc}
 
 -- none is back yet

@@ -2,11 +2,12 @@
 use Rattle.std.proofs.Common.{◌≡◌, ◌≤◌, ℕ, true, false, Bool, List, length, arith, refl, subst, ◌∙◌}
 use Rattle.kb_lane.specs.Lanes.{LaneValue}
 use Rattle.kb_vault.specs.Places.{is_among}
-use Rattle.kb_opening.specs.Folders.{VaultTold, DiskWords}
-use Rattle.kb_opening.specs.Openings.{AreOpened, AreBack, IsAsBefore, TellsNoOther}
-use Rattle.kb_opening.proofs.Amongs.{of_folder, not_among_fewer}
+use Rattle.kb_loading.specs.Folders.{VaultTold, DiskWords}
+use Rattle.kb_loading.specs.OneLane.{TellsNoOther}
+use Rattle.kb_opening.specs.Openings.{AreOpened, AreBack, IsAsBefore}
+use Rattle.kb_loading.proofs.Amongs.{of_folder, not_among_fewer}
 use Rattle.kb_opening.proofs.Closing.{as_out_as_before, others_as_before}
-use Rattle.kb_opening.proofs.GivenBack.{reads_them, same_tells, tells_no_other}
+use Rattle.kb_loading.proofs.GivenBack.{reads_them, same_tells, tells_no_other}
 use Rattle.kb_opening.proofs.Places.{some_at}
 
 module _ {D G : Type 0} (words : DiskWords D) (folder : List ℕ) (count : ℕ) (old mid new : VaultTold)

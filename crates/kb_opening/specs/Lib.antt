@@ -1,3 +1,2 @@
-pub mod Folders
 pub mod Openings
 pub mod Private

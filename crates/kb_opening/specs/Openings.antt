@@ -1,9 +1,8 @@
 -- Lanes of a folder, opened from a vault and given back.
-use Rattle.std.specs.Prelude.{ℕ, ◌≡◌, ◌≢◌, ◌≤◌, ◌<◌, ◌⊎◌, true, false, IsTrue, ⊤, List, [], length, slice_get}
+use Rattle.std.specs.Prelude.{ℕ, ◌≡◌, ◌≢◌, ◌≤◌, ◌<◌, ◌⊎◌, true, false, IsTrue, ⊤, List, length, slice_get}
 use Rattle.std.specs.Prelude.{Option, Some, None, IfSome}
 use Rattle.kb_base.specs.Faults.{Rose}
 use Rattle.kb_vault.specs.Places.{is_among, SameLanes, SameFiles}
-use Rattle.kb_vault.specs.Vaults.{Opens}
 use Rattle.kb_journal.specs.Format.{StandsFor}
 use Rattle.kb_journal.specs.Reading.{number_at}
 use Rattle.kb_gateway.specs.declared.order.Asked.{Asked}
@@ -14,26 +13,10 @@ use Rattle.kb_machine.specs.Histories.{AreNewFrom}
 use Rattle.kb_lane.specs.Asking.{WasAskedOnce}
 use Rattle.kb_lane.specs.Lanes.{LaneValue, opened_of}
 use Rattle.kb_lane.specs.Loads.{IsNoLane}
-use Rattle.kb_opening.specs.declared.fault.Unopened.{Unopened}
-use Rattle.kb_opening.specs.declared.fault.Unopened.TheVariants.{Disk, NoMemory, Journal, Market}
-use Rattle.kb_opening.specs.Folders.{VaultTold, DiskWords, with_lanes}
-
--- A lane was opened as the one of this number among so many: it has done and asked nothing yet, and no call
--- of its disk has failed. If its bytes were told, its disk is open over them, and its history is what they
--- stand for. Each of its commands is new to those before it.
-pub record IsOpened {D G : Type 0} (words : DiskWords D) (count number : ℕ) (told : Option (List ℕ))
-    (lane : LaneValue D G) : Type 0 where
-  pub place : lane.log.journal.lane ≡ number
-  pub one_of_them : lane.log.journal.lanes ≡ count
-  pub running : lane.log.journal.stopped ≡ false
-  pub idle : lane.outbox ≡ []
-  pub unasked : lane.own ≡ []
-  pub opened : lane.log.opened ≡ length lane.log.history
-  pub calm : words.fault_count lane.log.journal.disk ≡ 0
-  pub faults : lane.log.faults ≡ 0
-  pub bytes : IfSome told (Opens words.honest words.seen words.images lane.log.journal.disk)
-  pub stands : IfSome told (StandsFor count number (payloads lane.log.history))
-  pub fresh : AreNewFrom no_machine lane.log.history
+use Rattle.kb_loading.specs.declared.fault.Unopened.{Unopened}
+use Rattle.kb_loading.specs.declared.fault.Unopened.TheVariants.{Disk, NoMemory, Journal, Market}
+use Rattle.kb_loading.specs.Folders.{VaultTold, DiskWords, with_lanes}
+use Rattle.kb_loading.specs.OneLane.{IsOpened, TellsNoOther}
 
 -- The first lanes of a folder are open, of so many: the one at each place has its number, and is out.
 -- Nothing else has changed in the vault, and no call failed.
@@ -79,12 +62,6 @@ pub record AreBack {D G : Type 0} (words : DiskWords D) (folder : List ℕ) (old
 abbrev pub AskedOnceEach : {D G : Type 0} → (G → Option (List Asked)) → List (LaneValue D G) → Type 0
 AskedOnceEach asked lanes = (place : ℕ) (lane : LaneValue _ _) → slice_get lanes place ≡ Some lane
     → WasAskedOnce (opened_of lane) (asked lane.gateway) lane.own
-
--- where bytes are told before and after, they are the same
-abbrev pub TellsNoOther : Option (List ℕ) → Option (List ℕ) → Type 0
-TellsNoOther None after = ⊤
-TellsNoOther (Some before) None = ⊤
-TellsNoOther (Some before) (Some after) = after ≡ before
 
 -- Nothing was opened in a folder: the same lanes are out as before, and no lane has other bytes.
 pub record IsAsBefore (folder : List ℕ) (old new : VaultTold) : Type 0 where

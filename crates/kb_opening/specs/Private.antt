@@ -1,3 +1,1 @@
 pub mod AllLanes
-pub mod Faults
-pub mod OneLane

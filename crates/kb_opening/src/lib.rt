@@ -6,11 +6,8 @@
 //! them back.
 #![tactic(auto)]
 
-mod fault;
-mod loading;
 mod opening;
 mod returning;
 
-pub use fault::Unopened;
 pub use opening::open_lanes;
 pub use returning::put_back;

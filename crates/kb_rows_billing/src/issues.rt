@@ -6,11 +6,12 @@ ghost use Rattle.kb_billing.specs.Numbers.{AreBelow};
 use crate::compare::same;
 use kb_billing::{SubscriptionCharges, issue_due};
 use kb_blocking::Scope;
+use kb_cases::facts;
 use kb_catalog::Catalog;
 use kb_credit::Line;
 use kb_days::{Day, Reach};
 use kb_due::Facts;
-use kb_samples::{Account, Anchor, SHOP, SampleFault, Step, bcd, catalog, currency, day, reach};
+use kb_samples::{Account, Anchor, SHOP, SampleFault, Step, catalog, day, reach};
 use kb_tree::{ItemNo, Steps};
 use std::alloc::Global;
 use std::marker::Brand;
@@ -424,21 +425,6 @@ fn billed_up_to<L: Ledger>(
     let issue = issue_due(alloc, facts, &Some(billed), charges, first, steps)?;
     let next = first + issue.lines.len() as u64;
     Ok((issue.charges, issue.lines, next))
-}
-
-/// What billing looks at.
-fn facts<'a>(
-    catalog: &'a Catalog,
-    account: &'a Account,
-    number: u32,
-) -> Result<Facts<'a>, SampleFault> {
-    Ok(Facts {
-        catalog,
-        timeline: &account.timeline,
-        blocks: &account.blocks,
-        currency: currency()?,
-        bcd: bcd(number)?,
-    })
 }
 
 /// The place of the first line that isn't as a row says; none if there is none.

@@ -1,10 +1,10 @@
 //! Worked accounts, day by day: what is due, and what is charged once.
 
-use crate::accounts::{Parts, Told, cells_on, found, is_there, wanted};
-use crate::cases::{Case, Held, Row, hold};
+use crate::cells::{Parts, Told, found, wanted};
 use crate::compare::same;
-use crate::steps::{add_on, block, cancel, change, create};
+use crate::held::{Held, Row, hold};
 use kb_blocking::Scope;
+use kb_cases::{Case, add_on, block, cancel, cells_on, change, create, is_there};
 use kb_days::{END_OF_DAYS, LAST_CHARGED, LAST_REACH, Reach};
 use kb_due::{Cell, Facts};
 use kb_samples::{Anchor, CLUB, DEARER_CLUB, SampleFault, day, reach};
@@ -45,7 +45,7 @@ const FEBRUARY: Option<Told> = Some(("Basic", 0, "2024-02-29", "2024-03-31", 100
 const STARTED: Option<Told> = Some(("Starter", 1, "2024-02-01", "2024-03-01", 1000));
 
 /// From 31 January on, by the 31st; and from 15 January on with a trial of 30 days, by the 1st.
-static PERIODS: [Case; 2] = [
+static PERIODS: [Case<Held>; 2] = [
     Case {
         texts: &[CLUB],
         bcd: 31,
@@ -88,7 +88,7 @@ const OWN_NEXT: Option<Told> = Some(("Own", 1, "2024-03-14", "2024-04-14", 1000)
 const HELPER: Option<Told> = Some(("Helper", 0, "2024-02-14", "2024-03-14", 100));
 
 /// A lead whose first charged day is 14 February, and an add-on from 20 February on that is billed by it.
-static ALIGNED: [Case; 1] = [Case {
+static ALIGNED: [Case<Held>; 1] = [Case {
     texts: &[CLUB],
     bcd: 1,
     steps: &[
@@ -115,7 +115,7 @@ const APRIL: Option<Told> = Some(("Basic", 0, "2024-04-01", "2024-05-01", 1000))
 const THIRTY_DAYS: Option<Told> = Some(("Thirty", 0, "2024-03-01", "2024-03-31", 15));
 
 /// Two scopes that block days from 10 to 27 March; and a pause of the bundle from 4 to 8 March.
-static BLOCKED: [Case; 2] = [
+static BLOCKED: [Case<Held>; 2] = [
     Case {
         texts: &[CLUB],
         bcd: 1,
@@ -168,7 +168,7 @@ const PRO: Option<Told> = Some(("Pro", 0, "2024-03-01", "2024-04-01", 3100));
 
 /// A change on 20 March, before and at its billed date; a change to the same plan, which takes its day away
 /// until the billed date reaches it; and a cancellation.
-static CHANGED: [Case; 3] = [
+static CHANGED: [Case<Held>; 3] = [
     Case {
         texts: &[CLUB],
         bcd: 1,
@@ -219,7 +219,7 @@ const EXTRA: Option<Told> = Some(("Extra", 0, "2024-03-01", "2024-04-01", 100));
 
 /// A lead that offers its add-on until 10 March, and again from 21 March on; and an add-on that changes on 21
 /// March to what its lead doesn't offer.
-static OFFERED: [Case; 2] = [
+static OFFERED: [Case<Held>; 2] = [
     Case {
         texts: &[CLUB],
         bcd: 1,
@@ -267,7 +267,7 @@ const STARTED_ANEW: Option<Told> = Some(("Starter", 1, "2024-04-01", "2024-05-01
 
 /// From 1 April on there is a dearer version: who subscribed before keeps the price, and a change takes the
 /// new one. And a change to a plan whose phases are counted anew, from the change on.
-static CHOSEN: [Case; 2] = [
+static CHOSEN: [Case<Held>; 2] = [
     Case {
         texts: &[CLUB, DEARER_CLUB],
         bcd: 1,
@@ -308,7 +308,7 @@ const TRIAL: Option<Told> = Some(("Starter", 0, "2024-01-15", "2024-01-16", 500)
 
 /// The fee of a trial from 15 January on; when the account is blocked; when it is cancelled at once; and when
 /// a change begins a trial.
-static FEES: [Case; 4] = [
+static FEES: [Case<Held>; 4] = [
     Case {
         texts: &[CLUB],
         bcd: 1,
@@ -355,7 +355,7 @@ fn fees_of_days(rt: HostRuntime) -> Result<(), Fail> {
     hold(&rt, rt.alloc(), &FEES)
 }
 
-static AT_THE_END: [Case; 1] = [Case {
+static AT_THE_END: [Case<Held>; 1] = [Case {
     texts: &[CLUB],
     bcd: 1,
     steps: &[create!("Starter", "2099-12-31")],

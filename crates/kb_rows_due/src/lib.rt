@@ -1,20 +1,14 @@
-//! Rows of what is due: what days of whole accounts are charged by, and which pieces and fees they have, as
-//! worked out by hand or by a look at each day.
+//! Rows of what is due: how subscriptions stand on days of whole accounts, and what these are charged by, as
+//! worked out by hand.
 #![tactic(auto)]
 
 #[cfg(test)]
-mod accounts;
-#[cfg(test)]
-mod cases;
+mod cells;
 #[cfg(test)]
 mod compare;
 #[cfg(test)]
 mod due_days;
 #[cfg(test)]
-mod generated;
-#[cfg(test)]
-mod pieces;
+mod held;
 #[cfg(test)]
 mod states;
-#[cfg(test)]
-mod steps;

@@ -1,10 +1,9 @@
 //! How subscriptions stand on days, and what was chosen for them.
 
-use crate::accounts::is_there;
-use crate::cases::{Case, Held, hold};
 use crate::compare::same;
-use crate::steps::{add_on, block, cancel, change, create};
+use crate::held::{Held, hold};
 use kb_blocking::Scope;
+use kb_cases::{Case, add_on, block, cancel, change, create, is_there};
 use kb_days::{Name, Period};
 use kb_due::Entitlement::{Active, Blocked, Cancelled, Pending};
 use kb_due::{Choice, Entitlement, Facts, ask_of, choice_on, is_available, live, state_on};
@@ -27,7 +26,7 @@ const STEPS: [Step; 7] = [
 ];
 
 /// How the two stand, what was chosen for the lead, and what is asked for the add-on's plan.
-static CASES: [Case; 3] = [
+static CASES: [Case<Held>; 3] = [
     Case {
         texts: &[CLUB],
         bcd: 1,

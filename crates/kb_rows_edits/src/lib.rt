@@ -5,7 +5,7 @@
 #[cfg(test)]
 mod compare;
 #[cfg(test)]
-mod facts;
+mod refusals;
 #[cfg(test)]
 mod states;
 #[cfg(test)]

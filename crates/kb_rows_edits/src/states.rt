@@ -1,7 +1,7 @@
 //! Pauses and blocks of a bundle b1 with the subscription s1.
 
 use crate::compare::same;
-use crate::facts::told;
+use crate::refusals::told;
 use kb_blocking::{Blocks, Flags};
 use kb_commands::{Block, BlockScope, Pause, Resume};
 use kb_days::{Day, Name};

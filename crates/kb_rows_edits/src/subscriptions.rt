@@ -1,7 +1,8 @@
 //! Starts, changes and cancellations of worked accounts, on 2024-03-10.
 
 use crate::compare::same;
-use crate::facts::{facts, told};
+use crate::refusals::told;
+use kb_cases::facts;
 use kb_catalog::Catalog;
 use kb_commands::{Cancel, Change, Create, Uncancel};
 use kb_days::{Day, Name, Period};
@@ -115,7 +116,7 @@ fn started(
     let asked = create_of(row)?;
     // The check has to see a day where a command is let go.
     let _day = asked.day;
-    let facts = facts(catalog, account)?;
+    let facts = facts(catalog, account, 1)?;
     match start(alloc, &facts, day("2024-03-10")?, &asked) {
         Ok(timeline) => told_entry(catalog, &timeline, 1, row),
         Err(fault) => Ok(told(fault)),
@@ -314,7 +315,7 @@ fn changed(
 ) -> Result<&'static str, SampleFault> {
     let (billed, today) = (billed_of(billed)?, day("2024-03-10")?);
     let asked = change_of(row)?;
-    let facts = facts(catalog, account)?;
+    let facts = facts(catalog, account, 1)?;
     match change(alloc, &facts, billed, today, &asked) {
         Ok(timeline) => told_entry(catalog, &timeline, 0, row),
         Err(fault) => Ok(told(fault)),
@@ -406,7 +407,7 @@ fn cancelled(
         day: Some(day(date)?),
     };
     let today = day("2024-03-10")?;
-    let facts = facts(catalog, account)?;
+    let facts = facts(catalog, account, 1)?;
     match cancel(alloc, &facts, Some(today), today, &asked) {
         Ok(timeline) => told_end(&timeline, billed_of(end)?),
         Err(fault) => Ok(told(fault)),
@@ -437,7 +438,7 @@ fn uncancelled(
         key: name("k")?,
         subscription: name(subscription)?,
     };
-    let facts = facts(catalog, account)?;
+    let facts = facts(catalog, account, 1)?;
     match uncancel(alloc, &facts, &asked) {
         Ok(_) => Ok(""),
         Err(fault) => Ok(told(fault)),

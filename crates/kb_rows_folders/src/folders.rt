@@ -4,7 +4,7 @@ ghost use Rattle.kb_vault.specs.Memory as memory;
 
 use crate::passing::passed;
 use kb_gateway::{ListGateway, ListMarket};
-use kb_opening::Unopened;
+use kb_loading::Unopened;
 use kb_vault::{FileFault, LaneFile, MemoryVault, Vault};
 use std::alloc::{AllocError, Global};
 use std::test::Fail;

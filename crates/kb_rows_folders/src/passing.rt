@@ -3,7 +3,8 @@ ghost use Rattle.std.specs.Prelude.{◌≡◌, ◌<◌, ℕ, false, codes};
 
 use kb_gateway::{Market, NoGateway};
 use kb_lane::Lane;
-use kb_opening::{Unopened, open_lanes, put_back};
+use kb_loading::Unopened;
+use kb_opening::{open_lanes, put_back};
 use kb_vault::Vault;
 use std::alloc::Global;
 use std::test::Fail;

@@ -31,7 +31,10 @@ fn may_lead(category: Option<Category>) -> bool
 pub fn is_add_on(category: Option<Category>) -> bool
     ensures { result ≡ told.is_addon category }
 {
-    matches!(category, Some(Category::AddOn))
+    match category {
+        Some(category) => category.is_add_on(),
+        None => false,
+    }
 }
 
 /// Whether a bundle's lead is live on a day, and offers a product.
@@ -66,7 +69,10 @@ fn offers(choice: &Choice, product: Name) -> bool
 fn is_base(category: Option<Category>) -> bool
     ensures { result ≡ told.is_base_product category }
 {
-    matches!(category, Some(Category::Base))
+    match category {
+        Some(category) => category.is_base(),
+        None => false,
+    }
 }
 
 /// Whether a change of the subscription at a place, to a product, that is asked for on one day and takes

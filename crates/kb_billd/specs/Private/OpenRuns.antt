@@ -5,7 +5,7 @@ use Rattle.kb_lines.specs.Reading.{Known}
 use Rattle.kb_apply.specs.declared.apply.ApplyStop.{ApplyStop}
 use Rattle.kb_apply.specs.Applying.{Applies}
 use Rattle.kb_apply.specs.LaneRuns.{LanesValue, Outside, lanes_machine}
-use Rattle.kb_opening.specs.Folders.{VaultTold, DiskWords}
+use Rattle.kb_loading.specs.Folders.{VaultTold, DiskWords}
 use Rattle.kb_opening.specs.Openings.{AreBack, AskedOnceEach}
 
 -- The lines of the input are answered by lanes that are open, and their disks are given back.

@@ -1,6 +1,6 @@
 //! `init`: the lanes of a folder, made with a catalog text and an overdue text.
 ghost use Rattle.std.specs.Prelude.{◌≡◌, ℕ, false};
-ghost use Rattle.kb_opening.specs.Folders.{told_of};
+ghost use Rattle.kb_loading.specs.Folders.{told_of};
 ghost use Rattle.kb_billd.specs.Foundings.{FoundsFolder, outcome_of_founding, stop_of_unfounded};
 
 use kb_days::Day;

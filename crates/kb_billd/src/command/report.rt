@@ -3,7 +3,7 @@ ghost use Rattle.std.specs.Prelude.{◌≡◌, ◌≤◌, ◌<◌, ℕ, Err, tru
 ghost use Rattle.kb_base.specs.Faults.{Rose};
 ghost use Rattle.kb_lane.specs.Lanes.{machine_of};
 ghost use Rattle.kb_lines.specs.declared.stop.Stop.TheVariants.{Input, Output};
-ghost use Rattle.kb_opening.specs.Folders.{told_of, words_of};
+ghost use Rattle.kb_loading.specs.Folders.{told_of, words_of};
 ghost use Rattle.kb_opening.specs.Openings.{AreBack};
 ghost use Rattle.kb_endings.specs.declared.stop.Stop.TheVariants as stops;
 ghost use Rattle.kb_reports.specs.declared.printing.Unprinted.TheVariants as unprinted;

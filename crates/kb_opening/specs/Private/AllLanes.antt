@@ -3,9 +3,8 @@ use Rattle.std.specs.Prelude.{ℕ, ◌≡◌, ◌≤◌, ◌<◌, true, false, L
 use Rattle.std.specs.Prelude.{IfSome}
 use Rattle.kb_vault.specs.Places.{is_among, SameLanes, SameFiles}
 use Rattle.kb_lane.specs.Lanes.{LaneValue}
-use Rattle.kb_opening.specs.Folders.{VaultTold, DiskWords, with_lanes}
-use Rattle.kb_opening.specs.Openings.{TellsNoOther}
-use Rattle.kb_opening.specs.Private.OneLane.{TakesOut}
+use Rattle.kb_loading.specs.Folders.{VaultTold, DiskWords, with_lanes}
+use Rattle.kb_loading.specs.OneLane.{TellsNoOther, TakesOut}
 
 -- the next lane is opened
 abbrev pub AddsLane : {D G : Type 0} → DiskWords D → List ℕ → ℕ → VaultTold → VaultTold → List (LaneValue D G)

@@ -1,7 +1,7 @@
 use Rattle.std.proofs.Common.{◌≡◌, ◌+◌, ℕ, [], length, arith, refl, ap, sym, subst, ◌∙◌}
-use Rattle.kb_opening.specs.Folders.{told_of, words_of}
+use Rattle.kb_loading.specs.Folders.{told_of, words_of}
 use Rattle.kb_opening.specs.Openings.{AreOpened}
-use Rattle.kb_opening.specs.Private.OneLane.{IsLeftIn, IsLaneCause}
+use Rattle.kb_loading.specs.OneLane.{IsLeftIn, IsLaneCause}
 use Rattle.kb_opening.proofs.Opened.{none_open, one_more_open, one_longer, stopped_next, cause_of_next}
 use Rattle.kb_opening.proofs.Opened.{first_of_next, first_tells, lanes_in, lanes_told}
 use Rattle.kb_opening.proofs.opening.open_all.Goals as goal

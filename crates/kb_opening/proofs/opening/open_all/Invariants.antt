@@ -1,5 +1,5 @@
 use Rattle.std.proofs.Common.{◌≡◌, length}
-use Rattle.kb_opening.specs.Folders.{told_of, words_of}
+use Rattle.kb_loading.specs.Folders.{told_of, words_of}
 use Rattle.kb_opening.specs.Openings.{AreOpened, AreServed}
 use Rattle.kb_opening.proofs.opening.open_all.Given as goal
 

@@ -1,6 +1,7 @@
 use Rattle.std.proofs.Common.{ap, length}
-use Rattle.kb_opening.specs.Folders.{told_of, words_of}
-use Rattle.kb_opening.proofs.LeftIn.{added, unadded}
+use Rattle.kb_loading.specs.Folders.{told_of, words_of}
+use Rattle.kb_loading.proofs.LeftIn.{unadded}
+use Rattle.kb_opening.proofs.Added.{added}
 use Rattle.kb_opening.proofs.Served.{none_served, one_more_served}
 use Rattle.kb_opening.proofs.opening.open_first.Goals as goal
 

@@ -1,4 +1,4 @@
-use Rattle.kb_opening.specs.Folders.{told_of, words_of}
+use Rattle.kb_loading.specs.Folders.{told_of, words_of}
 use Rattle.kb_opening.proofs.AsBefore.{are_out, as_before, cause_still}
 use Rattle.kb_opening.proofs.opening.open_lanes.Goals as goal
 

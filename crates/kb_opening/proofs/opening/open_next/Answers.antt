@@ -1,5 +1,6 @@
-use Rattle.kb_opening.specs.Folders.{told_of, words_of}
-use Rattle.kb_opening.proofs.LeftIn.{added_in, unadded_in}
+use Rattle.kb_loading.specs.Folders.{told_of, words_of}
+use Rattle.kb_loading.proofs.LeftIn.{unadded_in}
+use Rattle.kb_opening.proofs.Added.{added_in}
 use Rattle.kb_opening.proofs.Served.{one_more_served_in}
 use Rattle.kb_opening.proofs.opening.open_next.Goals as goal
 

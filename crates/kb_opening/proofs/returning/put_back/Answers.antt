@@ -1,9 +1,9 @@
 use Rattle.std.proofs.Common.{◌≡◌, ◌∷◌, [], ◌+◌, ℕ, length, true, arith, ap, sym, subst, ◌∙◌, append_assoc}
 use Rattle.std.proofs.Common.{append-nil, refl, rules}
 use Rattle.std.specs.Vec.Iter.{into_iter_items}
-use Rattle.kb_opening.specs.Folders.{told_of, words_of}
+use Rattle.kb_loading.specs.Folders.{told_of, words_of}
 use Rattle.kb_opening.specs.Openings.{AreBack, AskedOnceEach}
-use Rattle.kb_opening.specs.Private.OneLane.{TakesBack}
+use Rattle.kb_loading.specs.OneLane.{TakesBack}
 use Rattle.kb_opening.proofs.Places.{length_snoc, next_within, nothing_left}
 use Rattle.kb_opening.proofs.Returned.{asked_more, none_back, next_out, one_more_back}
 use Rattle.kb_opening.proofs.returning.put_back.Goals as goal

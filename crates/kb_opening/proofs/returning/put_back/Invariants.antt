@@ -1,6 +1,6 @@
 use Rattle.std.proofs.Common.{◌≡◌, ◌++◌, length}
 use Rattle.std.specs.Vec.Iter.{into_iter_items, into_iter_len}
-use Rattle.kb_opening.specs.Folders.{told_of, words_of}
+use Rattle.kb_loading.specs.Folders.{told_of, words_of}
 use Rattle.kb_opening.specs.Openings.{AreBack, AskedOnceEach}
 use Rattle.kb_opening.proofs.returning.put_back.Given as goal
 

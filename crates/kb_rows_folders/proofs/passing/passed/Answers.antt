@@ -1,6 +1,6 @@
 use Rattle.std.proofs.Common.{length, refl, ◌∙◌}
 use Rattle.std.specs.Prelude.{codes}
-use Rattle.kb_opening.specs.Folders.{told_of, words_of}
+use Rattle.kb_loading.specs.Folders.{told_of, words_of}
 use Rattle.kb_opening.proofs.Closing.{as_out_as_before}
 use Rattle.kb_rows_folders.proofs.passing.passed.Goals as goal
 

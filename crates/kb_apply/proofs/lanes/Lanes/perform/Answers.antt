@@ -13,5 +13,5 @@ returns-in-Some-clause-served g c =
     g.D.Disk.fault_count g.G.Gateway.asked
     g.G.Gateway.said g.G.Gateway.faults g.C.Clock.day)
     c.args.today c.args.command.now place c.args.self.now c.perform_at.new.self c.perform_at.result)
-    (c.place_of-place.ensures.place
+    ((rw c.count-count.ensures.count at c.place_of-place.ensures.place)
     ∙ ap (λ account. lane_of account (length c.args.self.now.lanes)) told.1) c.perform_at.ensures.performed)

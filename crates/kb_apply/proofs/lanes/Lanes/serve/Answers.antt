@@ -1,6 +1,7 @@
 use Rattle.std.proofs.Common.{[], sym, length}
 use Rattle.std.proofs.lemmas.List.{append-nil}
-use Rattle.kb_apply.specs.LaneRuns.{outside_of, account_on, lanes_on, first_lane}
+use Rattle.kb_apply.specs.LaneRuns.{outside_of}
+use Rattle.kb_lanes.specs.Addressed.{account_on, lanes_on, first_lane}
 use Rattle.kb_apply.proofs.LaneLoops.{part_ends}
 use Rattle.kb_tell.proofs.Lines.{on_err, on_ok}
 use Rattle.kb_apply.proofs.lanes.Lanes.serve.Goals as goal
@@ -10,13 +11,13 @@ returns-in-Ok-clause-ok g c = on_ok c.drain_from.result (λ drains. (
   c.in-Ok.ensures.ok.0,
   c.in-Ok.ensures.ok.1,
   (
-    c.day_of-today.result,
+    c.day_or_today-today.result,
     c.reply_to-spoken.new.self,
     c.reply_to-spoken.result,
-    c.day_of-today.ensures,
+    rw (← c.self.view_is) c.day_or_today-today.ensures,
     c.reply_to-spoken.ensures.served,
     c.in-Ok.ensures.ok.2,
-    rw (← c.lanes_of-first.ensures.first, ← c.lanes_of-first.ensures.count) drains,
+    rw (← c.count-count.ensures.count, ← c.lanes_of-first.ensures.first, ← c.lanes_of-first.ensures.count) drains,
   ),
 )) c.drain_from.ensures.ok
 
@@ -25,13 +26,13 @@ returns-in-Ok-clause-err g c = on_err c.drain_from.result (λ drains. (
   c.in-Ok.ensures.ok.0,
   c.in-Ok.ensures.ok.1,
   (
-    c.day_of-today.result,
+    c.day_or_today-today.result,
     c.reply_to-spoken.new.self,
     c.reply_to-spoken.result,
-    c.day_of-today.ensures,
+    rw (← c.self.view_is) c.day_or_today-today.ensures,
     c.reply_to-spoken.ensures.served,
     (c.in-Ok.ensures.ok.0, c.in-Ok.ensures.ok.2, ([], sym (append-nil c.in-Ok.ensures.ok.0))),
-    rw (← c.lanes_of-first.ensures.first, ← c.lanes_of-first.ensures.count) drains,
+    rw (← c.count-count.ensures.count, ← c.lanes_of-first.ensures.first, ← c.lanes_of-first.ensures.count) drains,
   ),
 )) c.drain_from.ensures.err
 
@@ -40,15 +41,15 @@ returns-in-Err-clause-err g c = (
   c.in-Err.ensures.err.0,
   c.in-Err.ensures.err.1,
   (
-    c.day_of-today.result,
+    c.day_or_today-today.result,
     c.reply_to-spoken.new.self,
     c.reply_to-spoken.result,
-    c.day_of-today.ensures,
+    rw (← c.self.view_is) c.day_or_today-today.ensures,
     c.reply_to-spoken.ensures.served,
     c.in-Err.ensures.err.2,
     part_ends (outside_of g.D.Disk.honest g.D.Disk.moment g.D.Disk.left_since g.D.Disk.fault_count
         g.G.Gateway.asked
-        g.G.Gateway.said g.G.Gateway.faults g.C.Clock.day) c.day_of-today.result
+        g.G.Gateway.said g.G.Gateway.faults g.C.Clock.day) c.day_or_today-today.result
         (first_lane (length c.args.self.now.lanes) (account_on c.args.request.now.what))
         (lanes_on (length c.args.self.now.lanes) (account_on c.args.request.now.what))
         c.reply_to-spoken.new.self,

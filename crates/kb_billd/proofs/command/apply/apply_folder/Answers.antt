@@ -1,5 +1,5 @@
 use Rattle.std.proofs.Common.{inr, length}
-use Rattle.kb_opening.specs.Folders.{told_of, words_of}
+use Rattle.kb_loading.specs.Folders.{told_of, words_of}
 use Rattle.kb_opening.proofs.Closing.{are_out}
 use Rattle.kb_billd.proofs.Applied.{runs_lanes}
 use Rattle.kb_billd.proofs.command.apply.apply_folder.Goals as goal

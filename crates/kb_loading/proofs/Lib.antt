@@ -1,0 +1,4 @@
+pub mod Amongs
+pub mod GivenBack
+pub mod LeftIn
+mod Unloaded
