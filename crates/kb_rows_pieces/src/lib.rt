@@ -1,5 +1,5 @@
-//! Rows of pieces and fees: those of whole accounts, worked out by hand or drawn, are as a look at each day of a
-//! year finds them.
+//! Rows of pieces and fees: those of whole accounts, worked out by hand or drawn, are as a look at each day
+//! of a year finds them.
 #![tactic(auto)]
 
 #[cfg(test)]
