@@ -1,4 +1,5 @@
--- The entries of an overdue text: what the table of a state says, with its keys in order, and the first fault.
+-- The entries of an overdue text: what the table of a state says, with its keys in order, and the first
+-- fault.
 use Rattle.std.specs.Prelude.{ℕ, List, [], ◌∷◌, codes, Ok}
 use Rattle.toml.specs.Data.{Members, as_bool}
 use Rattle.kb_overdue.specs.declared.state.OverdueState.{OverdueState}

@@ -1,5 +1,5 @@
 //! The account of a command.
-ghost use Rattle.std.specs.Prelude.{◌≡◌, ℕ, true, IfSome, IfNone};
+ghost use Rattle.std.specs.Prelude.{◌≡◌, ℕ, true, false, IfSome, IfNone};
 ghost use Rattle.kb_machine.specs.Machines.{MachineValue, account_of, judged, account_judged, is_text};
 
 use kb_commands::Command;
@@ -12,6 +12,7 @@ pub fn account_of(command: &Command) -> Option<Name>
     ensures judged { IfSome result (λ account. (machine : MachineValue) (today : ℕ)
         → judged machine today command.now ≡ account_judged machine today command.now) }
     ensures text { IfNone result (is_text command.now ≡ true) }
+    ensures no_text { IfSome result (λ account. is_text command.now ≡ false) }
 {
     match command {
         Command::Catalog(_) | Command::OverdueRules(_) => None,

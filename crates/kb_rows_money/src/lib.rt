@@ -1,5 +1,5 @@
-//! Rows of payments, settlements and refunds: what each is refused for, in which order, and what it makes of a
-//! worked invoice.
+//! Rows of payments, settlements and refunds: what each is refused for, in which order, and what it makes of
+//! a worked invoice.
 #![tactic(auto)]
 
 #[cfg(test)]

@@ -1,5 +1,5 @@
-//! The rows of overdue texts and of the states that they say, and of what faults tell a shop, in tables that a
-//! person worked out.
+//! The rows of overdue texts and of the states that they say, and of what faults tell a shop, in tables that
+//! a person worked out.
 //!
 //! The rule kept here: a row is a text, or a change of the shop's, or a day, and what is told of it.
 #![tactic(auto)]

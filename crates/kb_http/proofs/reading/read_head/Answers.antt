@@ -28,6 +28,7 @@ looks-preserved g c = record {
   calm = c.in_ok-read_behind_part-in-Part.ensures.calm ∙ c.looks.invariant.calm;
 }
 
-pub returns-in_err-read_behind_part-in-Part-clause-ahead : goal.returns-in_err-read_behind_part-in-Part-clause-ahead
+pub returns-in_err-read_behind_part-in-Part-clause-ahead :
+    goal.returns-in_err-read_behind_part-in-Part-clause-ahead
 returns-in_err-read_behind_part-in-Part-clause-ahead g c =
     reads_on _ _ _ _ _ _ _ _ _ c.looks.invariant.ahead c.read_behind_part.ensures.ahead

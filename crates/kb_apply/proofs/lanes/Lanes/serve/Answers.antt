@@ -17,7 +17,8 @@ returns-in-Ok-clause-ok g c = on_ok c.drain_from.result (λ drains. (
     rw (← c.self.view_is) c.day_or_today-today.ensures,
     c.reply_to-spoken.ensures.served,
     c.in-Ok.ensures.ok.2,
-    rw (← c.count-count.ensures.count, ← c.lanes_of-first.ensures.first, ← c.lanes_of-first.ensures.count) drains,
+    rw (← c.count-count.ensures.count, ← c.lanes_of-first.ensures.first, ← c.lanes_of-first.ensures.count)
+        drains,
   ),
 )) c.drain_from.ensures.ok
 
@@ -32,7 +33,8 @@ returns-in-Ok-clause-err g c = on_err c.drain_from.result (λ drains. (
     rw (← c.self.view_is) c.day_or_today-today.ensures,
     c.reply_to-spoken.ensures.served,
     (c.in-Ok.ensures.ok.0, c.in-Ok.ensures.ok.2, ([], sym (append-nil c.in-Ok.ensures.ok.0))),
-    rw (← c.count-count.ensures.count, ← c.lanes_of-first.ensures.first, ← c.lanes_of-first.ensures.count) drains,
+    rw (← c.count-count.ensures.count, ← c.lanes_of-first.ensures.first, ← c.lanes_of-first.ensures.count)
+        drains,
   ),
 )) c.drain_from.ensures.err
 
