@@ -1,7 +1,7 @@
 //! Pauses and blocks: what is repaired, and billed again.
 
-use crate::play::{NO_STATES, Row, play_all};
-use kb_samples::SampleFault;
+use kb_plays::{NO_STATES, Row, play_all};
+use std::test::Fail;
 
 static ROWS: [Row; 3] = [
     (
@@ -52,6 +52,6 @@ static ROWS: [Row; 3] = [
 ];
 
 #[test]
-fn pauses_and_blocks(rt: HostRuntime) -> Result<(), SampleFault> {
-    play_all(&rt, rt.alloc(), &ROWS)
+fn pauses_and_blocks(rt: HostRuntime) -> Result<(), Fail> {
+    play_all(rt.alloc(), &ROWS)
 }

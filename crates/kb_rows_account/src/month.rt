@@ -1,7 +1,8 @@
 //! A month of a shop: automatic payments, and what an account that doesn't pay may do.
 
-use crate::play::{Row, play_all};
-use kb_samples::{OVERDUE, SampleFault};
+use kb_plays::{Row, play_all};
+use kb_samples::OVERDUE;
+use std::test::Fail;
 
 /// After each command what is due by itself is asked for until nothing is; a payment is settled as the
 /// gateway tells.
@@ -50,6 +51,6 @@ static ROWS: [Row; 1] = [(
 )];
 
 #[test]
-fn a_month(rt: HostRuntime) -> Result<(), SampleFault> {
-    play_all(&rt, rt.alloc(), &ROWS)
+fn a_month(rt: HostRuntime) -> Result<(), Fail> {
+    play_all(rt.alloc(), &ROWS)
 }

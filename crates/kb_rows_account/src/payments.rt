@@ -1,7 +1,8 @@
 //! Payments, credit, and what is given back.
 
-use crate::play::{Row, play_all};
-use kb_samples::{OVERDUE, SampleFault};
+use kb_plays::{Row, play_all};
+use kb_samples::OVERDUE;
+use std::test::Fail;
 
 static ROWS: [Row; 2] = [
     (
@@ -36,6 +37,6 @@ static ROWS: [Row; 2] = [
 ];
 
 #[test]
-fn payments(rt: HostRuntime) -> Result<(), SampleFault> {
-    play_all(&rt, rt.alloc(), &ROWS)
+fn payments(rt: HostRuntime) -> Result<(), Fail> {
+    play_all(rt.alloc(), &ROWS)
 }

@@ -1,7 +1,8 @@
 //! Refusals.
 
-use crate::play::{Row, play_all};
-use kb_samples::{OVERDUE, SampleFault};
+use kb_plays::{Row, play_all};
+use kb_samples::OVERDUE;
+use std::test::Fail;
 
 static ROWS: [Row; 7] = [
     (
@@ -90,6 +91,6 @@ static ROWS: [Row; 7] = [
 ];
 
 #[test]
-fn refusals(rt: HostRuntime) -> Result<(), SampleFault> {
-    play_all(&rt, rt.alloc(), &ROWS)
+fn refusals(rt: HostRuntime) -> Result<(), Fail> {
+    play_all(rt.alloc(), &ROWS)
 }

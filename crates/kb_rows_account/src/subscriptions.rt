@@ -1,7 +1,8 @@
 //! Subscriptions: what starts, changes and cancellations are charged.
 
-use crate::play::{NO_STATES, Row, play_all};
-use kb_samples::{OVERDUE, SampleFault};
+use kb_plays::{NO_STATES, Row, play_all};
+use kb_samples::OVERDUE;
+use std::test::Fail;
 
 static ROWS: [Row; 10] = [
     (
@@ -107,6 +108,6 @@ static ROWS: [Row; 10] = [
 ];
 
 #[test]
-fn subscriptions(rt: HostRuntime) -> Result<(), SampleFault> {
-    play_all(&rt, rt.alloc(), &ROWS)
+fn subscriptions(rt: HostRuntime) -> Result<(), Fail> {
+    play_all(rt.alloc(), &ROWS)
 }

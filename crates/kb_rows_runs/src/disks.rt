@@ -1,14 +1,10 @@
 //! Disks that fail while lines are answered.
 ghost use Rattle.kb_runs.specs.Insides.{AllInside};
 
-use crate::compare::same;
-use kb_runs::{
-    APPLY, SILENT, Script, bytes_in, empty_vault, hold_account, hold_run, make_lanes, market_of,
-    run, vault_on,
-};
+use crate::failing_lanes::{founded_bytes, hold_stopped};
+use kb_runs::{SILENT, bytes_in, hold_account, hold_run, vault_on};
 use kb_vault::MemoryVault;
 use std::alloc::Global;
-use std::process::Abort;
 use std::test::Fail;
 
 /// Each command is written down by four calls of the disk: the record is written and synced, and then its
@@ -115,51 +111,18 @@ fn disks_that_fail(rt: HostRuntime) -> Result<(), Fail> {
     let bytes = founded_bytes(alloc)?;
     for row in &FAULTS {
         for call in row.0..row.1 {
-            hold_fault(&rt, alloc, &bytes, call, row)?;
+            hold_fault(alloc, &bytes, call, row)?;
         }
-        hold_fault(&rt, alloc, &bytes, row.1, row)?;
+        hold_fault(alloc, &bytes, row.1, row)?;
     }
     Ok(())
 }
 
-/// The bytes of the lane of a new shop.
-pub(crate) fn founded_bytes(alloc: Global) -> Result<Vec<u8>, Fail> {
-    let mut vault = empty_vault(alloc)?;
-    make_lanes(alloc, &mut vault, 1, "o")?;
-    bytes_in(alloc, &mut vault)
-}
-
-fn hold_fault(
-    rt: &impl Abort,
-    alloc: Global,
-    bytes: &[u8],
-    call: u64,
-    row: &Fault,
-) -> Result<(), Fail> {
+fn hold_fault(alloc: Global, bytes: &[u8], call: u64, row: &Fault) -> Result<(), Fail> {
     let mut failing = vault_on(alloc, bytes.to_vec(alloc)?, &[call])?;
-    hold_stopped(rt, alloc, &mut failing, call, &SILENT, LINES, row.2)?;
+    hold_stopped(alloc, &mut failing, &SILENT, LINES, row.2)?;
     let mut whole = vault_on(alloc, bytes_in(alloc, &mut failing)?, &[])?;
     hold_again(alloc, &mut whole, row.3)
-}
-
-/// A run ends with the fault. What the lane can't do any more is answered so.
-pub(crate) fn hold_stopped(
-    rt: &impl Abort,
-    alloc: Global,
-    vault: &mut MemoryVault,
-    call: u64,
-    script: &Script,
-    lines: &str,
-    answers: &str,
-) -> Result<(), Fail>
-    requires inside { AllInside vault.old }
-    ensures inside { AllInside vault.new }
-{
-    let mut market = market_of(alloc, 1, script)?;
-    let wanted = format!(in alloc; "{answers}billd: disk\n")?;
-    let (status, text) = run(alloc, vault, &mut market, APPLY, lines)?;
-    same(rt, &(status, text.as_str()), &(5, wanted.as_str()), &call);
-    Ok(())
 }
 
 /// Each command that was answered is there, and lines that are sent again get the answers of a whole run.

@@ -1,11 +1,9 @@
 //! Folders whose lanes can't be opened, or can't be made.
 ghost use Rattle.kb_runs.specs.Insides.{AllInside};
 
-use crate::compare::same;
-use kb_runs::{APPLY, SILENT, empty_vault, make_lanes, market_of, run, vault_of_two};
+use kb_runs::{APPLY, empty_vault, hold_words, make_lanes, vault_of_two};
 use kb_vault::MemoryVault;
 use std::alloc::Global;
-use std::process::Abort;
 use std::test::Fail;
 
 /// The bytes of a folder's lane 0 and of its lane 1, and the last output line of a run over lines.
@@ -78,39 +76,24 @@ static FOLDERS: [Folder; 13] = [
 #[test]
 fn folders_whose_lanes_cant_be_opened(rt: HostRuntime) -> Result<(), Fail> {
     for row in &FOLDERS {
-        hold_folder(&rt, rt.alloc(), row)?;
+        hold_folder(rt.alloc(), row)?;
     }
     Ok(())
 }
 
-fn hold_folder(rt: &impl Abort, alloc: Global, row: &Folder) -> Result<(), Fail> {
+fn hold_folder(alloc: Global, row: &Folder) -> Result<(), Fail> {
     let (first, second, last) = *row;
     let mut vault = vault_of_two(alloc, first, second)?;
     let status = if last == "" { 0 } else { 6 };
     // The lanes that were opened are given back: another run ends as the first one did.
-    hold_opening(rt, alloc, &mut vault, (status, last))?;
-    hold_opening(rt, alloc, &mut vault, (status, last))
-}
-
-fn hold_opening(
-    rt: &impl Abort,
-    alloc: Global,
-    vault: &mut MemoryVault,
-    wanted: (u8, &str),
-) -> Result<(), Fail>
-    requires inside { AllInside vault.old }
-    ensures inside { AllInside vault.new }
-{
-    let mut market = market_of(alloc, 2, &SILENT)?;
-    let (status, text) = run(alloc, vault, &mut market, APPLY, "")?;
-    same(rt, &(status, text.as_str()), &wanted, &wanted.1);
-    Ok(())
+    hold_words(alloc, &mut vault, 2, APPLY, "", (status, last))?;
+    hold_words(alloc, &mut vault, 2, APPLY, "", (status, last))
 }
 
 #[test]
 fn a_folder_is_made_once(rt: HostRuntime) -> Result<(), Fail> {
     let mut vault = empty_vault(rt.alloc())?;
-    hold_once(&rt, rt.alloc(), &mut vault)
+    hold_once(rt.alloc(), &mut vault)
 }
 
 /// Words, their status, and their last output line, after a shop of one lane was made.
@@ -129,29 +112,21 @@ static AGAIN: [(&str, u8, &str); 4] = [
     (APPLY, 0, ""),
 ];
 
-fn hold_once(rt: &impl Abort, alloc: Global, vault: &mut MemoryVault) -> Result<(), Fail>
+fn hold_once(alloc: Global, vault: &mut MemoryVault) -> Result<(), Fail>
     requires inside { AllInside vault.old }
     ensures inside { AllInside vault.new }
 {
     make_lanes(alloc, vault, 1, "o")?;
-    hold_words(rt, alloc, vault, &AGAIN[0])?;
-    hold_words(rt, alloc, vault, &AGAIN[1])?;
-    hold_words(rt, alloc, vault, &AGAIN[2])?;
-    hold_words(rt, alloc, vault, &AGAIN[3])
+    hold_row(alloc, vault, &AGAIN[0])?;
+    hold_row(alloc, vault, &AGAIN[1])?;
+    hold_row(alloc, vault, &AGAIN[2])?;
+    hold_row(alloc, vault, &AGAIN[3])
 }
 
-fn hold_words(
-    rt: &impl Abort,
-    alloc: Global,
-    vault: &mut MemoryVault,
-    row: &(&str, u8, &str),
-) -> Result<(), Fail>
+fn hold_row(alloc: Global, vault: &mut MemoryVault, row: &(&str, u8, &str)) -> Result<(), Fail>
     requires inside { AllInside vault.old }
     ensures inside { AllInside vault.new }
 {
     let (words, status, last) = *row;
-    let mut market = market_of(alloc, 1, &SILENT)?;
-    let (found, text) = run(alloc, vault, &mut market, words, "")?;
-    same(rt, &(found, text.as_str()), &(status, last), &words);
-    Ok(())
+    hold_words(alloc, vault, 1, words, "", (status, last))
 }

@@ -1,18 +1,16 @@
 //! Lines of the most bytes that are read, and of one more.
 ghost use Rattle.kb_runs.specs.Insides.{AllInside};
 
-use crate::compare::same;
-use kb_runs::{APPLY, SILENT, empty_vault, make_lanes, market_of, run};
+use kb_runs::{APPLY, empty_vault, hold_words, make_lanes};
 use kb_vault::MemoryVault;
 use std::alloc::{AllocError, Global};
-use std::process::Abort;
 use std::test::Fail;
 
 const OPEN: &str =
     r#"{"do":"open","account":"a1","key":"k1","currency":"USD","bcd":1,"today":"2024-03-01"}"#;
 
-const OPENED: &str =
-    r#"{"status":"ok","command":1,"invoice":null,"total":0,"credit":0,"unpaid":0}"#;
+const OPENED: &str = r#"{"status":"ok","command":1,"invoice":null,"total":0,"credit":0,"unpaid":0}
+"#;
 
 /// How many bytes a line has, the status, and the last output line.
 static LENGTHS: [(usize, u8, &str); 3] = [
@@ -24,24 +22,18 @@ static LENGTHS: [(usize, u8, &str); 3] = [
 #[test]
 fn lines_that_are_padded_with_spaces(rt: HostRuntime) -> Result<(), Fail> {
     for (length, status, last) in LENGTHS {
-        hold_length(&rt, rt.alloc(), length, (status, last))?;
+        hold_length(rt.alloc(), length, (status, last))?;
     }
     Ok(())
 }
 
-fn hold_length(
-    rt: &impl Abort,
-    alloc: Global,
-    length: usize,
-    wanted: (u8, &str),
-) -> Result<(), Fail> {
+fn hold_length(alloc: Global, length: usize, wanted: (u8, &str)) -> Result<(), Fail> {
     let mut vault = empty_vault(alloc)?;
-    hold_padded(rt, alloc, &mut vault, length, wanted)
+    hold_padded(alloc, &mut vault, length, wanted)
 }
 
 /// A line is answered, and then one that is padded to so many bytes; up to a line that is too long.
 fn hold_padded(
-    rt: &impl Abort,
     alloc: Global,
     vault: &mut MemoryVault,
     length: usize,
@@ -54,16 +46,8 @@ fn hold_padded(
     let (status, last) = wanted;
     let second = if status == 0 { OPENED } else { "" };
     let input = input_of(alloc, length)?;
-    let output = format!(in alloc; "{OPENED}\n{second}{last}")?;
-    let mut market = market_of(alloc, 1, &SILENT)?;
-    let (found, text) = run(alloc, vault, &mut market, APPLY, &input)?;
-    same(
-        rt,
-        &(found, text.trim_end()),
-        &(status, output.trim_end()),
-        &length,
-    );
-    Ok(())
+    let output = format!(in alloc; "{OPENED}{second}{last}")?;
+    hold_words(alloc, vault, 1, APPLY, &input, (status, output.as_str()))
 }
 
 /// A line, and the same padded to so many bytes.

@@ -1,9 +1,7 @@
 //! Runs without a gateway, on the clock's day.
 
-use crate::compare::same;
-use kb_runs::{SILENT, empty_vault, make_lanes, market_of, run};
+use kb_runs::{empty_vault, hold_words, make_lanes};
 use std::alloc::Global;
-use std::process::Abort;
 use std::test::Fail;
 
 /// A payment that no gateway hears of. The lines name no day.
@@ -30,17 +28,14 @@ static WORDS: [&str; 2] = ["apply --dir shop", "apply --dir=shop --gateway=none"
 #[test]
 fn no_market_is_asked(rt: HostRuntime) -> Result<(), Fail> {
     for words in WORDS {
-        hold_words(&rt, rt.alloc(), words)?;
+        hold_no_market(rt.alloc(), words)?;
     }
     Ok(())
 }
 
 /// The market has no gateway to give, and isn't asked for one.
-fn hold_words(rt: &impl Abort, alloc: Global, words: &str) -> Result<(), Fail> {
+fn hold_no_market(alloc: Global, words: &str) -> Result<(), Fail> {
     let mut vault = empty_vault(alloc)?;
     make_lanes(alloc, &mut vault, 1, "o")?;
-    let mut market = market_of(alloc, 0, &SILENT)?;
-    let (status, text) = run(alloc, &mut vault, &mut market, words, LINES)?;
-    same(rt, &(status, text.as_str()), &(0, ANSWERS), &words);
-    Ok(())
+    hold_words(alloc, &mut vault, 0, words, LINES, (0, ANSWERS))
 }

@@ -1,12 +1,11 @@
 //! Disks that fail around a payment: it is never asked for twice, and a look-up settles it.
 ghost use Rattle.kb_runs.specs.Insides.{AllInside};
 
-use crate::disks::{founded_bytes, hold_stopped};
+use crate::failing_lanes::{founded_bytes, hold_stopped};
 use kb_gateway::{Seen, Told};
 use kb_runs::{Script, bytes_in, hold_run, vault_on};
 use kb_vault::MemoryVault;
 use std::alloc::Global;
-use std::process::Abort;
 use std::test::Fail;
 
 /// The payment is written down by the calls 12 to 15 of the disk, then asked for, and what was told is
@@ -130,30 +129,16 @@ fn a_payment_is_asked_for_once(rt: HostRuntime) -> Result<(), Fail> {
     let bytes = founded_bytes(alloc)?;
     for fault in &FAULTS {
         for call in fault.first..fault.last {
-            hold_fault(&rt, alloc, &bytes, call, fault)?;
+            hold_fault(alloc, &bytes, call, fault)?;
         }
-        hold_fault(&rt, alloc, &bytes, fault.last, fault)?;
+        hold_fault(alloc, &bytes, fault.last, fault)?;
     }
     Ok(())
 }
 
-fn hold_fault(
-    rt: &impl Abort,
-    alloc: Global,
-    bytes: &[u8],
-    call: u64,
-    fault: &Fault,
-) -> Result<(), Fail> {
+fn hold_fault(alloc: Global, bytes: &[u8], call: u64, fault: &Fault) -> Result<(), Fail> {
     let mut failing = vault_on(alloc, bytes.to_vec(alloc)?, &[call])?;
-    hold_stopped(
-        rt,
-        alloc,
-        &mut failing,
-        call,
-        &ACCEPTS,
-        LINES,
-        fault.answers,
-    )?;
+    hold_stopped(alloc, &mut failing, &ACCEPTS, LINES, fault.answers)?;
     let mut whole = vault_on(alloc, bytes_in(alloc, &mut failing)?, &[])?;
     hold_again(alloc, &mut whole, fault)
 }

@@ -1,13 +1,13 @@
 //! Reports on a shop's accounts.
 ghost use Rattle.kb_runs.specs.Insides.{AllInside};
 
-use crate::compare::same;
 use kb_gateway::Told;
 use kb_ports::{BytesSink, BytesSource};
-use kb_runs::{SILENT, Script, empty_vault, hold_run, make_lanes, market_of, run, run_between};
+use kb_runs::{
+    SILENT, Script, empty_vault, hold_end, hold_run, hold_words, make_lanes, market_of, run_between,
+};
 use kb_vault::MemoryVault;
 use std::alloc::Global;
-use std::process::Abort;
 use std::test::Fail;
 
 /// Three accounts: one has paid for a month that it cancelled on the 20th, one owes since the 10th, and one
@@ -67,69 +67,39 @@ static REPORTS: [(&str, &str); 5] = [
 #[test]
 fn reports(rt: HostRuntime) -> Result<(), Fail> {
     for lanes in [1, 3] {
-        hold_reports(&rt, rt.alloc(), lanes)?;
+        let mut vault = empty_vault(rt.alloc())?;
+        hold_reports(rt.alloc(), &mut vault, lanes)?;
     }
     Ok(())
 }
 
-fn hold_reports(rt: &impl Abort, alloc: Global, lanes: u32) -> Result<(), Fail> {
-    let mut vault = empty_vault(alloc)?;
-    hold_reports_on(rt, alloc, &mut vault, lanes)
-}
-
 /// Each report is printed; and behind all of them, lines that are sent again get the answers that they got
 /// before.
-fn hold_reports_on(
-    rt: &impl Abort,
-    alloc: Global,
-    vault: &mut MemoryVault,
-    lanes: u32,
-) -> Result<(), Fail>
+fn hold_reports(alloc: Global, vault: &mut MemoryVault, lanes: u32) -> Result<(), Fail>
     requires inside { AllInside vault.old }
     ensures inside { AllInside vault.new }
 {
     make_lanes(alloc, vault, lanes, "o")?;
     hold_run(alloc, vault, lanes, &ACCEPTS, LINES, ANSWERS, "reports")?;
-    hold_each(rt, alloc, vault, &REPORTS)?;
-    hold_cut(rt, alloc, vault)?;
+    hold_each(alloc, vault, &REPORTS)?;
+    hold_cut(alloc, vault)?;
     hold_run(alloc, vault, lanes, &SILENT, LINES, ANSWERS, "reports")
 }
 
-/// Holds reports, one after another.
-fn hold_each(
-    rt: &impl Abort,
-    alloc: Global,
-    vault: &mut MemoryVault,
-    reports: &[(&str, &str)],
-) -> Result<(), Fail>
+/// Runs of these words read no input, and print the reports.
+fn hold_each(alloc: Global, vault: &mut MemoryVault, reports: &[(&str, &str)]) -> Result<(), Fail>
     requires inside { AllInside vault.old }
     ensures inside { AllInside vault.new }
 {
     for row in reports {
-        hold_report(rt, alloc, vault, row)?;
+        let (words, wanted) = *row;
+        hold_words(alloc, vault, 0, words, "not read\n", (0, wanted))?;
     }
     Ok(())
 }
 
-/// A run of these words reads no input, and prints the report.
-fn hold_report(
-    rt: &impl Abort,
-    alloc: Global,
-    vault: &mut MemoryVault,
-    row: &(&str, &str),
-) -> Result<(), Fail>
-    requires inside { AllInside vault.old }
-    ensures inside { AllInside vault.new }
-{
-    let (words, wanted) = *row;
-    let mut market = market_of(alloc, 0, &SILENT)?;
-    let (found, text) = run(alloc, vault, &mut market, words, "not read\n")?;
-    same(rt, &(found, text.as_str()), &(0, wanted), &words);
-    Ok(())
-}
-
 /// The output fails behind the first account.
-fn hold_cut(rt: &impl Abort, alloc: Global, vault: &mut MemoryVault) -> Result<(), Fail>
+fn hold_cut(alloc: Global, vault: &mut MemoryVault) -> Result<(), Fail>
     requires inside { AllInside vault.old }
     ensures inside { AllInside vault.new }
 {
@@ -137,8 +107,7 @@ fn hold_cut(rt: &impl Abort, alloc: Global, vault: &mut MemoryVault) -> Result<(
     let output = BytesSink::new(Vec::new(alloc), [2].to_vec(alloc)?);
     let mut market = market_of(alloc, 0, &SILENT)?;
     let (words, wanted) = REPORTS[0];
-    let (found, text) = run_between(alloc, vault, &mut market, words, input, output)?;
-    let first = wanted.split_once('\n').map_or("", |(first, _)| first);
-    same(rt, &(found, text.trim_end()), &(4, first), &words);
-    Ok(())
+    let found = run_between(alloc, vault, &mut market, words, input, output)?;
+    let first = wanted.split_inclusive('\n').next().unwrap_or("");
+    hold_end(alloc, found, (4, first), words)
 }

@@ -1,10 +1,8 @@
 //! Catalog and overdue texts that a shop is made with.
 
-use crate::compare::same;
-use kb_runs::{SILENT, laneless, market_of, run};
+use kb_runs::{hold_words, laneless};
 use kb_samples::SHOP;
 use std::alloc::{AllocError, Global};
-use std::process::Abort;
 use std::test::Fail;
 
 /// Words of a shop whose catalog or overdue text is the text `t`.
@@ -38,23 +36,15 @@ static TEXTS: [(&str, &str, u8, &str); 12] = [
 #[test]
 fn texts_that_are_refused(rt: HostRuntime) -> Result<(), Fail> {
     for (words, text, status, last) in TEXTS {
-        hold_text(&rt, rt.alloc(), words, text, (status, last))?;
+        hold_text(rt.alloc(), words, text, (status, last))?;
     }
     Ok(())
 }
 
-fn hold_text(
-    rt: &impl Abort,
-    alloc: Global,
-    words: &str,
-    text: &str,
-    wanted: (u8, &str),
-) -> Result<(), Fail> {
+/// Makes a shop of one lane with this text `t`.
+fn hold_text(alloc: Global, words: &str, text: &str, wanted: (u8, &str)) -> Result<(), Fail> {
     let mut vault = laneless(alloc, text, &[])?;
-    let mut market = market_of(alloc, 0, &SILENT)?;
-    let (status, said) = run(alloc, &mut vault, &mut market, words, "")?;
-    same(rt, &(status, said.as_str()), &wanted, &words);
-    Ok(())
+    hold_words(alloc, &mut vault, 0, words, "", wanted)
 }
 
 /// The price of the catalog's dearest plan, the status, and the last output line.
@@ -70,7 +60,7 @@ fn prices_of_a_catalog(rt: HostRuntime) -> Result<(), Fail> {
     let alloc = rt.alloc();
     for (price, status, last) in PRICES {
         let text = with_price(alloc, price)?;
-        hold_text(&rt, alloc, CATALOG, &text, (status, last))?;
+        hold_text(alloc, CATALOG, &text, (status, last))?;
     }
     Ok(())
 }
@@ -93,7 +83,7 @@ fn texts_that_are_too_long(rt: HostRuntime) -> Result<(), Fail> {
     let alloc = rt.alloc();
     for (length, status, last) in LENGTHS {
         let text = " ".repeat(alloc, length)?;
-        hold_text(&rt, alloc, CATALOG, &text, (status, last))?;
+        hold_text(alloc, CATALOG, &text, (status, last))?;
     }
     Ok(())
 }

@@ -1,9 +1,6 @@
 //! Words, and folders without a shop: runs that end before a line is read.
 
-use crate::compare::same;
-use kb_runs::{SILENT, empty_vault, market_of, run};
-use std::alloc::Global;
-use std::process::Abort;
+use kb_runs::{empty_vault, hold_words};
 use std::test::Fail;
 
 /// Words on an empty vault, the status, and the last output line.
@@ -70,17 +67,16 @@ static WORDS: [(&str, u8, &str); 22] = [
 
 #[test]
 fn words(rt: HostRuntime) -> Result<(), Fail> {
-    for row in &WORDS {
-        hold_words(&rt, rt.alloc(), row)?;
+    for (words, status, last) in WORDS {
+        let mut vault = empty_vault(rt.alloc())?;
+        hold_words(
+            rt.alloc(),
+            &mut vault,
+            1,
+            words,
+            "not read\n",
+            (status, last),
+        )?;
     }
-    Ok(())
-}
-
-fn hold_words(rt: &impl Abort, alloc: Global, row: &(&str, u8, &str)) -> Result<(), Fail> {
-    let (words, status, last) = *row;
-    let mut vault = empty_vault(alloc)?;
-    let mut market = market_of(alloc, 1, &SILENT)?;
-    let (found, text) = run(alloc, &mut vault, &mut market, words, "not read\n")?;
-    same(rt, &(found, text.as_str()), &(status, last), &words);
     Ok(())
 }

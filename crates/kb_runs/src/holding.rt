@@ -1,4 +1,4 @@
-//! How a run over lines is held against what is wanted.
+//! How a run is held against what is wanted.
 ghost use Rattle.kb_runs.specs.Insides.{AllInside};
 
 use crate::runs::{APPLY, run};
@@ -11,8 +11,42 @@ use std::test::Fail;
 /// Asks how the account `a1` stands.
 pub const ACCOUNT: &str = r#"{"do":"account","account":"a1"}"#;
 
-/// Runs the shop's lanes over an input. It is an error, with the name of the row and what was found, if the
-/// status isn't 0 or what is written isn't what is wanted.
+/// It is an error, with the name of the row and what was found, if a run didn't end with this status, or
+/// wrote anything else.
+pub fn hold_end(
+    alloc: Global,
+    found: (u8, String),
+    wanted: (u8, &str),
+    row: &str,
+) -> Result<(), Fail> {
+    let (status, text) = found;
+    if status == wanted.0 && text.as_str() == wanted.1 {
+        Ok(())
+    } else {
+        Err(Fail::new(format!(in alloc; "{row}: {status}, {text}")?))
+    }
+}
+
+/// Runs the program with words over an input, with gateways for so many lanes that have nothing to say. It is
+/// an error if it doesn't end as wanted: with this status and this text.
+pub fn hold_words(
+    alloc: Global,
+    vault: &mut MemoryVault,
+    lanes: u32,
+    words: &str,
+    input: &str,
+    wanted: (u8, &str),
+) -> Result<(), Fail>
+    requires inside { AllInside vault.old }
+    ensures inside { AllInside vault.new }
+{
+    let mut market = market_of(alloc, lanes, &SILENT)?;
+    let found = run(alloc, vault, &mut market, words, input)?;
+    hold_end(alloc, found, wanted, words)
+}
+
+/// Runs the shop's lanes over an input. It is an error if the status isn't 0 or what is written isn't what is
+/// wanted.
 pub fn hold_run(
     alloc: Global,
     vault: &mut MemoryVault,
@@ -26,12 +60,8 @@ pub fn hold_run(
     ensures inside { AllInside vault.new }
 {
     let mut market = market_of(alloc, lanes, script)?;
-    let (status, text) = run(alloc, vault, &mut market, APPLY, input)?;
-    if status == 0 && text.as_str() == wanted {
-        Ok(())
-    } else {
-        Err(Fail::new(format!(in alloc; "{row}, {lanes} lanes: {status}, {text}")?))
-    }
+    let found = run(alloc, vault, &mut market, APPLY, input)?;
+    hold_end(alloc, found, (0, wanted), row)
 }
 
 /// Another run over the same lanes shows this account.

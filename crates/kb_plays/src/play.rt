@@ -1,6 +1,5 @@
 //! Rows, played on a book.
 
-use crate::compare::same;
 use crate::script::{bytes_of, today_of};
 use kb_account::{Book, Prepared, World};
 use kb_book::{Answer, Refusal, Unprepared};
@@ -11,30 +10,31 @@ use kb_days::Day;
 use kb_overdue::Config;
 use kb_samples::{SHOP, SampleFault, catalog, day};
 use std::alloc::Global;
-use std::process::Abort;
+use std::test::Fail;
 
 /// Overdue rules without a state.
-pub(crate) const NO_STATES: &str = "state = []";
+pub const NO_STATES: &str = "state = []";
 
 /// A line of a row, and what is told of it: number, invoice, total, credit and unpaid, with `-` for no
 /// invoice; the same behind `kept`; or the refusal. The line `due` is what is due by itself.
-pub(crate) type Line = (&'static str, &'static str);
+pub type Line = (&'static str, &'static str);
 
 /// A name, the overdue rules, the line that opens the account, and later ones.
-pub(crate) type Row = (&'static str, &'static str, &'static str, &'static [Line]);
+pub type Row = (&'static str, &'static str, &'static str, &'static [Line]);
 
-/// Holds what is told of each line against the row's.
-pub(crate) fn play_all(rt: &impl Abort, alloc: Global, rows: &[Row]) -> Result<(), SampleFault> {
+/// Plays rows, each on a book of its own. It is an error, with the row, the line and what was told of it, if
+/// that isn't what the row says.
+pub fn play_all(alloc: Global, rows: &[Row]) -> Result<(), Fail> {
     for row in rows {
-        play_row(rt, alloc, row)?;
+        play_row(alloc, row)?;
     }
     Ok(())
 }
 
 // What owns much is let go in one place of a function each: every place is proved.
-fn play_row(rt: &impl Abort, alloc: Global, row: &Row) -> Result<(), SampleFault> {
+fn play_row(alloc: Global, row: &Row) -> Result<(), Fail> {
     let world = world_of(alloc, row.1)?;
-    play(rt, alloc, &world, row)
+    play(alloc, &world, row)
 }
 
 fn world_of(alloc: Global, overdue: &str) -> Result<World, SampleFault> {
@@ -49,24 +49,20 @@ fn overdue_of(alloc: Global, text: &str) -> Result<Config, SampleFault> {
     Ok(checked.ok_or(SampleFault::Word)?.into_parts().1)
 }
 
-fn play(rt: &impl Abort, alloc: Global, world: &World, row: &Row) -> Result<(), SampleFault> {
+fn play(alloc: Global, world: &World, row: &Row) -> Result<(), Fail> {
     let mut book = opened(alloc, row.2)?;
-    play_on(rt, alloc, world, &mut book, row)
+    play_on(alloc, world, &mut book, row)
 }
 
-fn play_on(
-    rt: &impl Abort,
-    alloc: Global,
-    world: &World,
-    book: &mut Book,
-    row: &Row,
-) -> Result<(), SampleFault> {
+fn play_on(alloc: Global, world: &World, book: &mut Book, row: &Row) -> Result<(), Fail> {
     let (name, _, _, lines) = *row;
     let mut today = day("2024-01-01")?;
     for (number, (line, answer)) in lines.iter().enumerate() {
         today = today_of(line).unwrap_or(today);
         let told = after(alloc, world, book, today, line, number)?;
-        same(rt, &told.as_str(), answer, &(name, line));
+        if told.as_str() != *answer {
+            return Err(Fail::new(format!(in alloc; "{name}, {line}: {told}")?));
+        }
     }
     Ok(())
 }
