@@ -4,13 +4,10 @@
 //! connections and clock, and promises what that call's clauses say.
 #![tactic(auto)]
 
+use kb_base::NoMemory;
 use kb_billd::billd;
-use kb_clock::SystemClock;
-use kb_endings::{Stop, close};
-use kb_folders::FolderVault;
-use kb_line_gateway::LineMarket;
-use kb_ports::NoMemory;
-use kb_streams::{StdSink, StdSource};
+use kb_runs::{Stop, close};
+use kb_system::{FolderVault, LineMarket, StdSink, StdSource, SystemClock};
 use std::process::ExitCode;
 use std::{env, io};
 

@@ -1,8 +1,7 @@
 -- The key of an automatic payment is a name.
 use Rattle.std.proofs.Common.{◌≡◌, ℕ, zero, suc, ◌+◌, ◌<◌, ◌≤◌, ◌^◌, ◌%◌, ◌/◌, Bool, true, ◌&&◌, List, []}
-use Rattle.std.proofs.Common.{◌∷◌, ◌++◌, length, codes}
-use Rattle.std.proofs.Common.{decimal, slice_index, EachIndex, nat_lt, nat_le, IsTrue, refl, sym, ap₂, subst}
-use Rattle.std.proofs.Common.{◌∙◌, arith, length-append}
+use Rattle.std.proofs.Common.{◌∷◌, ◌++◌, length, codes, decimal, slice_index, EachIndex, nat_lt, nat_le}
+use Rattle.std.proofs.Common.{IsTrue, refl, sym, ap₂, subst, ◌∙◌, arith, length-append}
 use Rattle.std.proofs.lemmas.Bool.Decides.{nat_tests}
 use Rattle.std.proofs.lemmas.List.Folds.{list_all-append}
 use Rattle.std.specs.Fmt.{IsBoundedDecimal}

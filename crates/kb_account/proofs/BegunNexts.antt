@@ -8,19 +8,19 @@ use Rattle.kb_credit.specs.declared.row.Row.{Row}
 use Rattle.kb_credit.specs.Sizes.{size_of}
 use Rattle.kb_credit.specs.Items.{amount_of}
 use Rattle.kb_credit.specs.InvoiceEdits.{max_sum}
-use Rattle.kb_commands.specs.declared.command.Command.{Command}
-use Rattle.kb_commands.specs.declared.command.Command.TheVariants as kinds
-use Rattle.kb_billing.specs.Numbers.{AreBelow}
-use Rattle.kb_billing.specs.ItemLines.{IsItemLine}
+use Rattle.kb_codec.specs.declared.command.Command.{Command}
+use Rattle.kb_codec.specs.declared.command.Command.TheVariants as kinds
+use Rattle.kb_tree.specs.Numbers.{AreBelow}
+use Rattle.kb_tree.specs.ItemLines.{IsItemLine}
 use Rattle.kb_book.specs.Worlds.{WorldValue}
 use Rattle.kb_book.specs.Books.{BookValue}
 use Rattle.kb_book.specs.Edits.{begun}
 use Rattle.kb_book.specs.Rows.{first_refusal}
 use Rattle.kb_book.specs.Refusals.{own_rows}
 use Rattle.kb_book.specs.Steps.{own_lines}
-use Rattle.kb_laws.specs.SoundBooks.{IsBook}
-use Rattle.kb_laws.proofs.BegunBooks.{begun-edited}
-use Rattle.kb_laws.proofs.BilledSteps.{edited-matched, were-below}
+use Rattle.kb_book.specs.SoundBooks.{IsBook}
+use Rattle.kb_book.proofs.BegunBooks.{begun-edited}
+use Rattle.kb_book.proofs.BilledSteps.{edited-matched, were-below}
 use Rattle.kb_account.proofs.NextBooks.{own-plain, lines-size}
 
 -- each subscription has its items

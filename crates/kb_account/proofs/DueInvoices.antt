@@ -3,7 +3,7 @@ use Rattle.std.proofs.Common.{◌≡◌, ℕ, ◌≤◌, Bool, true, false, Opti
 use Rattle.kb_credit.specs.InvoiceRows.{InvoicesValue}
 use Rattle.kb_payment.specs.PaymentSums.{PaymentsValue}
 use Rattle.kb_book.specs.Inner.{invoice_due, may_be_paid}
-use Rattle.kb_laws.proofs.FreshKeys.{due_number}
+use Rattle.kb_book.proofs.FreshKeys.{due_number}
 
 -- it has a number from 1 on
 pub due_first : (autopay : Bool) (payments : PaymentsValue) (invoices : InvoicesValue) (today : ℕ)

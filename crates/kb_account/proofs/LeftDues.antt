@@ -3,16 +3,16 @@ use Rattle.std.proofs.Common.{◌≡◌, ℕ, true, [], refl, sym, ap, ap₂, �
 use Rattle.std.proofs.lemmas.List.Elements.{All-nil}
 use Rattle.std.specs.Arc.{arc_value}
 use Rattle.kb_days.specs.Calendar.{first_day, charged_days}
-use Rattle.kb_commands.specs.declared.command.Command.{Command}
-use Rattle.kb_commands.specs.declared.command.Command.TheVariants as kinds
-use Rattle.kb_billing.specs.declared.issue.Issue.{Issue}
-use Rattle.kb_billing.specs.ItemLines.{IsItemLine}
+use Rattle.kb_codec.specs.declared.command.Command.{Command}
+use Rattle.kb_codec.specs.declared.command.Command.TheVariants as kinds
+use Rattle.kb_tree.specs.declared.issue.Issue.{Issue}
+use Rattle.kb_tree.specs.ItemLines.{IsItemLine}
 use Rattle.kb_book.specs.Worlds.{WorldValue}
 use Rattle.kb_book.specs.Books.{BookValue}
 use Rattle.kb_book.specs.Edits.{begun}
 use Rattle.kb_book.specs.Steps.{issue_over}
-use Rattle.kb_laws.specs.BilledBooks.{IsBilled}
-use Rattle.kb_laws.proofs.NothingDue.{nothing-due}
+use Rattle.kb_book.specs.BilledBooks.{IsBilled}
+use Rattle.kb_book.proofs.NothingDue.{nothing-due}
 use Rattle.kb_account.specs.Issues.{IsIssueOf}
 use Rattle.kb_account.specs.Private.LeavingCommands.{leaves_due}
 

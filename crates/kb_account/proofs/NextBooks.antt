@@ -1,7 +1,6 @@
 -- The book after an accepted command, as it is put together.
 use Rattle.std.proofs.Common.{◌≡◌, ℕ, zero, suc, ◌+◌, ◌*◌, ◌^◌, ◌≤◌, Bool, true, false, List, [], ◌∷◌, ◌++◌}
-use Rattle.std.proofs.Common.{length, Option, Some, None}
-use Rattle.std.proofs.Common.{ℤ, refl, sym, ap, ◌∙◌, arith, All, nat_lt}
+use Rattle.std.proofs.Common.{length, Option, Some, None, ℤ, refl, sym, ap, ◌∙◌, arith, All, nat_lt}
 use Rattle.std.proofs.lemmas.Int.{ints}
 use Rattle.std.proofs.lemmas.List.Elements.{All-nil, All-cons, All-head, All-tail}
 use Rattle.kb_days.specs.Calendar.{first_day, charged_days}
@@ -12,22 +11,22 @@ use Rattle.kb_credit.specs.Items.{amount_of, is_adjustment}
 use Rattle.kb_credit.specs.InvoiceRows.{InvoicesValue, credit, unpaid}
 use Rattle.kb_credit.specs.InvoiceEdits.{levelled, issued}
 use Rattle.kb_payment.specs.PaymentSums.{PaymentsValue}
-use Rattle.kb_commands.specs.declared.command.Command.{Command}
-use Rattle.kb_commands.specs.declared.command.Command.TheVariants as kinds
-use Rattle.kb_billing.specs.ItemLines.{IsItemLine}
+use Rattle.kb_codec.specs.declared.command.Command.{Command}
+use Rattle.kb_codec.specs.declared.command.Command.TheVariants as kinds
+use Rattle.kb_tree.specs.ItemLines.{IsItemLine}
 use Rattle.kb_book.specs.declared.answer.Answer.{Answer}
 use Rattle.kb_book.specs.declared.refusal.Refusal.TheVariants as refusal
 use Rattle.kb_book.specs.Worlds.{WorldValue}
-use Rattle.kb_book.specs.Issues.{Issue}
+use Rattle.kb_tree.specs.Issues.{Issue}
 use Rattle.kb_book.specs.Books.{BookValue, Kept, Keyed}
 use Rattle.kb_book.specs.Edits.{begun}
 use Rattle.kb_book.specs.Rows.{first_refusal}
 use Rattle.kb_book.specs.Refusals.{max_charge, own_rows}
 use Rattle.kb_book.specs.Steps.{Outcome, issue_over, own_lines, with_paid, with_invoice, number_of, key_of}
 use Rattle.kb_book.specs.Steps.{keep, billed_outcome, accepted_over}
-use Rattle.kb_laws.proofs.PaidRows.{with_paid-moved, with_paid-none}
-use Rattle.kb_laws.proofs.NotedRows.{with_paid-new}
-use Rattle.kb_laws.proofs.InvoicedAttempts.{AreInvoiced}
+use Rattle.kb_book.proofs.PaidRows.{with_paid-moved, with_paid-none}
+use Rattle.kb_book.proofs.NotedRows.{with_paid-new}
+use Rattle.kb_book.proofs.InvoicedAttempts.{AreInvoiced}
 use Rattle.kb_account.specs.declared.begun.Move.{Move}
 use Rattle.kb_account.specs.Private.Begins.{HasMoved}
 use Rattle.kb_account.specs.Private.KeptAnswers.{kept_after}

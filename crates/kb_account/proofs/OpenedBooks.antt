@@ -9,18 +9,18 @@ use Rattle.kb_payment.specs.PaymentSums.{PaymentsValue}
 use Rattle.kb_payment.specs.PaymentEdits.{no_payments}
 use Rattle.kb_credit.specs.InvoiceRows.{InvoicesValue}
 use Rattle.kb_credit.specs.InvoiceEdits.{no_invoices}
-use Rattle.kb_commands.specs.declared.command.Command.{Command}
-use Rattle.kb_commands.specs.declared.command.Command.TheVariants as kinds
-use Rattle.kb_commands.specs.declared.command.OpenAccount.{OpenAccount}
-use Rattle.kb_codec.specs.Commands.{spelling}
+use Rattle.kb_codec.specs.declared.command.Command.{Command}
+use Rattle.kb_codec.specs.declared.command.Command.TheVariants as kinds
+use Rattle.kb_codec.specs.declared.command.OpenAccount.{OpenAccount}
+use Rattle.kb_codec.specs.CommandBytes.{spelling}
 use Rattle.kb_book.specs.declared.answer.Answer.{Answer}
 use Rattle.kb_book.specs.Worlds.{WorldValue}
-use Rattle.kb_book.specs.Issues.{SubscriptionItems}
+use Rattle.kb_tree.specs.Issues.{SubscriptionItems}
 use Rattle.kb_book.specs.Books.{BookValue, Kept, Keyed, new_book}
 use Rattle.kb_book.specs.Steps.{Outcome, accepted_over}
-use Rattle.kb_laws.specs.SoundBooks.{IsBook}
-use Rattle.kb_laws.specs.BilledBooks.{IsBilled, IsEven}
-use Rattle.kb_laws.proofs.NewBooks.{opened-sound, opened-billed, opened-even}
+use Rattle.kb_book.specs.SoundBooks.{IsBook}
+use Rattle.kb_book.specs.BilledBooks.{IsBilled, IsEven}
+use Rattle.kb_book.proofs.NewBooks.{opened-sound, opened-billed, opened-even}
 use Rattle.kb_account.specs.Prepares.{opening_book}
 
 -- what is told of it

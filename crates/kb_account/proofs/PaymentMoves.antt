@@ -1,8 +1,7 @@
 -- What a command on payments moves.
 use Rattle.std.proofs.Common.{◌≡◌, ℕ, ◌^◌, ◌≤◌, ◌<◌, Bool, true, false, not, ◌&&◌, List, [], Option, Some}
-use Rattle.std.proofs.Common.{None, is_some}
-use Rattle.std.proofs.Common.{ℤ, pos, neg_ℤ, nat_abs, ◌+ℤ◌, ◌==◌, if◌then◌else◌, refl, sym, ap, subst, ◌∙◌}
-use Rattle.std.proofs.Common.{arith, eq-eqb}
+use Rattle.std.proofs.Common.{None, is_some, ℤ, pos, neg_ℤ, nat_abs, ◌+ℤ◌, ◌==◌, if◌then◌else◌, refl, sym, ap}
+use Rattle.std.proofs.Common.{subst, ◌∙◌, arith, eq-eqb}
 use Rattle.std.proofs.lemmas.Int.{ints}
 use Rattle.kb_payment.specs.declared.attempt.Attempt.{Attempt}
 use Rattle.kb_payment.specs.declared.attempt.Kind.TheVariants.{Refund, Chargeback}
@@ -11,18 +10,17 @@ use Rattle.kb_payment.specs.declared.attempt.Status.TheVariants.{Unknown, Succes
 use Rattle.kb_payment.specs.Attempts.{is_open, with_status}
 use Rattle.kb_payment.specs.PaymentSums.{PaymentsValue, attempt_of, with_attempt, paid_on, Moves}
 use Rattle.kb_payment.specs.PaymentEdits.{amount_of, purchase_of, purchased, give_back_of, refunded}
-use Rattle.kb_payment.specs.PaymentEdits.{charged_back}
-use Rattle.kb_payment.specs.PaymentEdits.{settled, give_back_fault}
+use Rattle.kb_payment.specs.PaymentEdits.{charged_back, settled, give_back_fault}
 use Rattle.kb_payment.specs.SoundPayments.{ArePayments}
-use Rattle.kb_laws.proofs.PaidMoves.{put-moves, settle-moves, pays, nat_abs-pays, nat_abs-pos}
-use Rattle.kb_commands.specs.declared.command.Pay.{Pay}
+use Rattle.kb_book.proofs.PaidMoves.{put-moves, settle-moves, pays, nat_abs-pays, nat_abs-pos}
+use Rattle.kb_codec.specs.declared.command.Pay.{Pay}
 use Rattle.kb_credit.specs.InvoiceRows.{InvoicesValue}
 use Rattle.kb_book.specs.declared.refusal.Refusal.TheVariants as refusal
 use Rattle.kb_book.specs.Rows.{first_refusal}
 use Rattle.kb_book.specs.PaymentRows.{is_own_key, pay_rows, give_back_rows, fault_rows, settle_rows}
 use Rattle.kb_book.specs.PaymentRows.{may_settle, same_status}
-use Rattle.kb_laws.proofs.AcceptedPayments.{first-none, pay-new}
-use Rattle.kb_laws.proofs.InvoicedAttempts.{AreInvoiced, invoiced-found}
+use Rattle.kb_book.proofs.AcceptedPayments.{first-none, pay-new}
+use Rattle.kb_book.proofs.InvoicedAttempts.{AreInvoiced, invoiced-found}
 use Rattle.kb_account.specs.declared.begun.Move.{Move}
 use Rattle.kb_account.specs.Private.Begins.{HasMoved, invoice_of, invoice_by}
 

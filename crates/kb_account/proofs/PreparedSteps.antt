@@ -1,8 +1,8 @@
 -- A step is refused, kept or accepted.
 use Rattle.std.proofs.Common.{◌≡◌, ℕ, Bool, true, false, Option, Some, None, Result, Ok, bytes_eq, refl, ap}
 use Rattle.kb_days.specs.Calendar.{first_day, charged_days}
-use Rattle.kb_commands.specs.declared.command.Command.{Command}
-use Rattle.kb_codec.specs.Commands.{spelling}
+use Rattle.kb_codec.specs.declared.command.Command.{Command}
+use Rattle.kb_codec.specs.CommandBytes.{spelling}
 use Rattle.kb_book.specs.declared.answer.Answer.{Answer}
 use Rattle.kb_book.specs.declared.refusal.Refusal.{Refusal}
 use Rattle.kb_book.specs.declared.unprepared.Unprepared.{Unprepared}

@@ -2,8 +2,8 @@
 use Rattle.std.proofs.Common.{◌≡◌, ℕ, None, Ok, refl, ap₂, ◌∙◌}
 use Rattle.std.specs.Arc.{arc_value}
 use Rattle.kb_days.specs.Calendar.{first_day, charged_days}
-use Rattle.kb_commands.specs.declared.command.Command.{Command}
-use Rattle.kb_billing.specs.declared.issue.Issue.{Issue}
+use Rattle.kb_codec.specs.declared.command.Command.{Command}
+use Rattle.kb_tree.specs.declared.issue.Issue.{Issue}
 use Rattle.kb_book.specs.declared.unprepared.Unprepared.{Unprepared}
 use Rattle.kb_book.specs.Worlds.{WorldValue}
 use Rattle.kb_book.specs.Books.{BookValue}

@@ -6,7 +6,7 @@ use Rattle.std.specs.Prelude.{option_and_then, option_to_list}
 use Rattle.kb_credit.specs.declared.line.Line.{Line}
 use Rattle.kb_credit.specs.InvoiceRows.{numbered}
 use Rattle.kb_timeline.specs.TimelineEdits.{TimelineValue}
-use Rattle.kb_account.specs.declared.view.invoice.ItemView.{ItemView}
+use Rattle.kb_book.specs.declared.views.ItemView.{ItemView}
 use Rattle.kb_account.specs.Views.{shown_item, items_from}
 
 -- what is shown from a place on is what is shown of the item there, and what comes later

@@ -7,19 +7,19 @@ use Rattle.kb_credit.specs.declared.line.Line.{Line}
 use Rattle.kb_credit.specs.Items.{amount_of}
 use Rattle.kb_credit.proofs.SizeLaws.{nat_abs-sum_of}
 use Rattle.kb_payment.specs.PaymentSums.{PaymentsValue}
-use Rattle.kb_commands.specs.declared.command.Command.{Command}
-use Rattle.kb_billing.specs.ItemLines.{IsItemLine}
+use Rattle.kb_codec.specs.declared.command.Command.{Command}
+use Rattle.kb_tree.specs.ItemLines.{IsItemLine}
 use Rattle.kb_book.specs.declared.answer.Answer.{Answer}
 use Rattle.kb_book.specs.Worlds.{WorldValue}
-use Rattle.kb_book.specs.Issues.{Issue}
+use Rattle.kb_tree.specs.Issues.{Issue}
 use Rattle.kb_book.specs.Books.{BookValue}
 use Rattle.kb_book.specs.Edits.{begun}
 use Rattle.kb_book.specs.Rows.{first_refusal}
 use Rattle.kb_book.specs.Refusals.{own_rows}
 use Rattle.kb_book.specs.Steps.{Outcome, issue_over, own_lines, accepted_over}
-use Rattle.kb_laws.specs.SoundBooks.{IsBook}
-use Rattle.kb_laws.proofs.PaidMoves.{MovesOnce}
-use Rattle.kb_laws.proofs.SoundCommands.{sound-accepted}
+use Rattle.kb_book.specs.SoundBooks.{IsBook}
+use Rattle.kb_book.proofs.PaidMoves.{MovesOnce}
+use Rattle.kb_book.proofs.SoundCommands.{sound-accepted}
 use Rattle.kb_account.specs.declared.begun.Move.{Move}
 use Rattle.kb_account.specs.Private.Begins.{HasMoved}
 use Rattle.kb_account.proofs.NextBooks.{lines-size}

@@ -1,7 +1,7 @@
 -- What is charged, where a subscription may be new.
 use Rattle.std.proofs.Common.{◌≡◌, ℕ, Bool, true, false, List, [], ◌∷◌, ◌++◌, All, sym, subst}
-use Rattle.kb_billing.specs.Numbers.{AreBelow}
-use Rattle.kb_book.specs.Issues.{SubscriptionItems, no_items}
+use Rattle.kb_tree.specs.Numbers.{AreBelow}
+use Rattle.kb_tree.specs.Issues.{SubscriptionItems, no_items}
 use Rattle.kb_account.specs.Private.Begins.{with_started}
 
 -- one that is new has no item, and stands behind the others

@@ -1,12 +1,12 @@
 -- What is issued for a book, and settlements, which leave that as it is.
 use Rattle.std.specs.Prelude.{◌≡◌, ◌≤◌, ◌*◌, length, All}
 use Rattle.kb_days.specs.Calendar.{first_day, charged_days}
-use Rattle.kb_commands.specs.declared.command.Command.{Command}
-use Rattle.kb_commands.specs.declared.command.Command.TheVariants as kinds
-use Rattle.kb_commands.specs.declared.command.Settle.{Settle}
-use Rattle.kb_billing.specs.declared.issue.Issue.{Issue}
-use Rattle.kb_billing.specs.ItemLines.{IsItemLine}
-use Rattle.kb_billing.specs.IssueValues.{issue_of}
+use Rattle.kb_codec.specs.declared.command.Command.{Command}
+use Rattle.kb_codec.specs.declared.command.Command.TheVariants as kinds
+use Rattle.kb_codec.specs.declared.command.Settle.{Settle}
+use Rattle.kb_tree.specs.declared.issue.Issue.{Issue}
+use Rattle.kb_tree.specs.ItemLines.{IsItemLine}
+use Rattle.kb_tree.specs.IssueValues.{issue_of}
 use Rattle.kb_book.specs.Worlds.{WorldValue}
 use Rattle.kb_book.specs.Books.{BookValue}
 use Rattle.kb_book.specs.Steps.{issue_over}

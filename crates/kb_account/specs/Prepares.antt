@@ -1,10 +1,10 @@
 -- What is prepared for a command.
 use Rattle.std.specs.Prelude.{◌≡◌, Bool, true, false, [], Option, Some, None, Result, Ok, Err, bytes_eq, ⊤}
-use Rattle.kb_commands.specs.declared.command.Command.{Command}
-use Rattle.kb_commands.specs.declared.command.Command.TheVariants as kinds
-use Rattle.kb_commands.specs.declared.command.OpenAccount.{OpenAccount}
+use Rattle.kb_codec.specs.declared.command.Command.{Command}
+use Rattle.kb_codec.specs.declared.command.Command.TheVariants as kinds
+use Rattle.kb_codec.specs.declared.command.OpenAccount.{OpenAccount}
 use Rattle.kb_book.specs.declared.answer.Answer.{Answer}
-use Rattle.kb_codec.specs.Commands.{spelling}
+use Rattle.kb_codec.specs.CommandBytes.{spelling}
 use Rattle.kb_book.specs.declared.refusal.Refusal.{Refusal}
 use Rattle.kb_book.specs.Books.{BookValue, Kept, new_book}
 use Rattle.kb_book.specs.Steps.{Outcome, key_of, kept_of}

@@ -1,8 +1,7 @@
 -- What is shown of an account.
 use Rattle.std.specs.Prelude.{ℕ, ◌+◌, nat_eq, List, [], ◌∷◌, ◌++◌, slice_get, option_map, option_and_then}
-use Rattle.std.specs.Prelude.{option_to_list}
-use Rattle.std.specs.Prelude.{Option, Some, None, Result, Ok, Err, if◌then◌else◌, map, pos, false, codes}
-use Rattle.std.specs.Prelude.{◌≡◌, refl}
+use Rattle.std.specs.Prelude.{option_to_list, Option, Some, None, Result, Ok, Err, if◌then◌else◌, map, pos}
+use Rattle.std.specs.Prelude.{false, codes, ◌≡◌, refl}
 use Rattle.kb_days.specs.Dates.{march}
 use Rattle.kb_credit.specs.declared.row.Row.{Row}
 use Rattle.kb_credit.specs.declared.line.Line.{Line}
@@ -16,22 +15,22 @@ use Rattle.kb_due.specs.Facts.{FactsValue, subscription_at}
 use Rattle.kb_due.specs.Governing.{Governing, governing_on}
 use Rattle.kb_due.specs.Life.{is_live_of}
 use Rattle.kb_due.specs.Entitlements.{state_of}
-use Rattle.kb_terms.specs.Wishes.{asked_day}
-use Rattle.kb_terms.specs.Effects.{through_of}
+use Rattle.kb_book.specs.Wishes.{asked_day}
+use Rattle.kb_book.specs.Effects.{through_of}
 use Rattle.kb_book.specs.declared.refusal.Refusal.{Refusal}
 use Rattle.kb_book.specs.declared.refusal.Refusal.TheVariants as refusal
 use Rattle.kb_book.specs.Worlds.{WorldValue}
 use Rattle.kb_book.specs.Books.{BookValue, new_book}
 use Rattle.kb_book.specs.Dues.{facts_of}
-use Rattle.kb_account.specs.declared.query.Query.{Query}
-use Rattle.kb_account.specs.declared.query.Query.TheVariants as queries
-use Rattle.kb_account.specs.declared.view.View.{View}
-use Rattle.kb_account.specs.declared.view.View.TheVariants as views
-use Rattle.kb_account.specs.declared.view.account.AccountView.{AccountView}
-use Rattle.kb_account.specs.declared.view.invoice.InvoiceView.{InvoiceView}
-use Rattle.kb_account.specs.declared.view.invoice.ItemView.{ItemView}
-use Rattle.kb_account.specs.declared.view.payment.PaymentView.{PaymentView}
-use Rattle.kb_account.specs.declared.view.subscription.SubscriptionView.{SubscriptionView}
+use Rattle.kb_book.specs.declared.query.Query.{Query}
+use Rattle.kb_book.specs.declared.query.Query.TheVariants as queries
+use Rattle.kb_book.specs.declared.views.View.{View}
+use Rattle.kb_book.specs.declared.views.View.TheVariants as views
+use Rattle.kb_book.specs.declared.views.AccountView.{AccountView}
+use Rattle.kb_book.specs.declared.views.InvoiceView.{InvoiceView}
+use Rattle.kb_book.specs.declared.views.ItemView.{ItemView}
+use Rattle.kb_book.specs.declared.views.PaymentView.{PaymentView}
+use Rattle.kb_book.specs.declared.views.SubscriptionView.{SubscriptionView}
 use Rattle.kb_account.specs.Prepares.{refusal_by}
 use Rattle.kb_account.specs.Sums.{bundle_at}
 

@@ -2,22 +2,25 @@
 ghost use Rattle.std.specs.Prelude.{◌≡◌, ℕ, List, [], pos, true, Some, None, Ok, IfOk, IfErr, IfSome};
 ghost use Rattle.std.specs.FinMap.{entries, put};
 ghost use Rattle.kb_sharing.specs.Keys.{by_words};
-ghost use Rattle.kb_codec.specs.Commands.{spelling};
+ghost use Rattle.kb_codec.specs.CommandBytes.{spelling};
 ghost use Rattle.kb_days.specs.Calendar.{first_day, charged_days};
 ghost use Rattle.kb_book.specs.Worlds.{WorldValue};
 ghost use Rattle.kb_book.specs.Rows.{IsUnprepared, first_refusal};
 ghost use Rattle.kb_book.specs.Steps as told;
-ghost use Rattle.kb_laws.specs.BilledBooks.{IsBilled, IsEven};
-ghost use Rattle.kb_laws.specs.AddedItems.{AddsFrom, GoOn};
-ghost use Rattle.kb_laws.specs.NextDues.{next_due};
+ghost use Rattle.kb_book.specs.BilledBooks.{IsBilled, IsEven};
+ghost use Rattle.kb_book.specs.AddedItems.{AddsFrom, GoOn};
+ghost use Rattle.kb_book.specs.NextDues.{next_due};
 ghost use Rattle.kb_account.specs.Prepares.{prepared_outcome, refusal_by, is_kept, is_kept_command, IfNew};
 ghost use Rattle.kb_account.specs.Prepares.{IsOpening, opening_book};
 
-use crate::{Kept, Next, Prepared, State, World};
+use crate::kept::Kept;
+use crate::next::{Next, Prepared};
+use crate::state::State;
+use crate::world::World;
 use kb_base::NoMemory;
 use kb_blocking::Blocks;
 use kb_book::{Answer, Unprepared};
-use kb_commands::{Command, OpenAccount};
+use kb_codec::{Command, OpenAccount};
 use kb_credit::Invoices;
 use kb_days::{Day, Name};
 use kb_money::Currency;
@@ -36,7 +39,7 @@ pub struct Book {
 
 impl Model for Book {
     ghost use Rattle.kb_book.specs.Books.{BookValue};
-    ghost use Rattle.kb_laws.specs.SoundBooks.{IsBook};
+    ghost use Rattle.kb_book.specs.SoundBooks.{IsBook};
     ghost use Rattle.kb_account.specs.Private.States.{value_of};
 
     ghost Value = { BookValue };

@@ -4,16 +4,18 @@ ghost use Rattle.kb_book.specs.Rows.{IsUnprepared};
 ghost use Rattle.kb_book.specs.Edits.{begun};
 ghost use Rattle.kb_account.specs.Private.States.{value_of};
 ghost use Rattle.kb_account.specs.Private.Begins.{begun_of, own_refusal, IsBegun};
-ghost use Rattle.kb_laws.specs.SoundBooks.{IsBook};
+ghost use Rattle.kb_book.specs.SoundBooks.{IsBook};
 
 mod blocking;
 mod money;
 mod payments;
 mod subscriptions;
 
-use crate::{Begun, State, World};
+use crate::begun::Begun;
+use crate::state::State;
+use crate::world::World;
 use kb_book::{Refusal, Unprepared};
-use kb_commands::Command;
+use kb_codec::Command;
 use kb_days::Day;
 use std::alloc::Global;
 

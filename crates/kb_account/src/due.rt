@@ -3,13 +3,14 @@ ghost use Rattle.std.specs.Prelude.{◌≡◌, ◌≤◌, IfOk, IfSome};
 ghost use Rattle.kb_days.specs.Names.{IsName};
 ghost use Rattle.kb_book.specs.Edits as told;
 ghost use Rattle.kb_book.specs.Inner as inner;
-ghost use Rattle.kb_laws.specs.NextDues.{next_due};
+ghost use Rattle.kb_book.specs.NextDues.{next_due};
 ghost use Rattle.kb_account.specs.Private.States.{value_of};
 
-use crate::{State, World};
+use crate::state::State;
+use crate::world::World;
 use kb_base::NoMemory;
 use kb_blocking::MAX_STATES;
-use kb_commands::{Auto, Command, InvoiceNo, Overdue};
+use kb_codec::{Auto, Command, InvoiceNo, Overdue};
 use kb_days::{Day, Name, text};
 use kb_edits as edits;
 use std::alloc::Global;

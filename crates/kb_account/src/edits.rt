@@ -5,7 +5,8 @@ ghost use Rattle.kb_book.specs.Edits.{moved_to};
 ghost use Rattle.kb_account.specs.Private.States.{value_of};
 ghost use Rattle.kb_account.specs.Private.Begins.{begun_of, with_started, HasMoved, IsBegun};
 
-use crate::{Begun, Move, State, later};
+use crate::begun::{Begun, Move, later};
+use crate::state::State;
 use kb_base::NoMemory;
 use kb_blocking::Blocks;
 use kb_days::Day;

@@ -8,7 +8,7 @@ ghost use Rattle.kb_credit.specs.InvoiceEdits.{max_sum, levelled, paid_on};
 ghost use Rattle.kb_book.specs.Steps.{with_invoice};
 ghost use Rattle.kb_account.specs.Private.Moves.{with_move};
 
-use crate::Move;
+use crate::begun::Move;
 use kb_base::NoMemory;
 use kb_credit::{Invoices, Line};
 use kb_days::Day;

@@ -1,12 +1,11 @@
 //! What is kept of an accepted command.
 ghost use Rattle.std.specs.Prelude.{◌≡◌, IfOk};
-ghost use Rattle.kb_codec.specs.Commands.{spelling};
+ghost use Rattle.kb_codec.specs.CommandBytes.{spelling};
 
 use crate::kept_answer::KeptAnswer;
 use kb_base::{NoMemory, Seq};
 use kb_book::Answer;
-use kb_codec::encode;
-use kb_commands::Command;
+use kb_codec::{Command, encode};
 use std::alloc::Global;
 use std::marker::Model;
 

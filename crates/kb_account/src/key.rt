@@ -2,7 +2,7 @@
 ghost use Rattle.std.specs.Prelude.{◌≡◌};
 ghost use Rattle.kb_book.specs.Steps as told;
 
-use kb_commands::Command;
+use kb_codec::Command;
 use kb_days::Name;
 
 /// The request key of a command of a caller.

@@ -17,24 +17,14 @@ mod kept;
 mod kept_answer;
 mod key;
 mod next;
-mod query;
 mod settling;
 mod state;
 mod step;
 mod view;
 mod world;
 
-use begun::{Begun, Move, later, move_on};
-use billing::{issue_all, leaves_due, with_own_line};
 pub use book::Book;
 pub use due::auto_key;
-use invoicing::invoices_after;
-use kept::Kept;
-use key::key_of;
 pub use next::{Next, Prepared};
-pub use query::Query;
-use state::State;
-pub use view::{
-    AccountView, InvoiceView, ItemView, PaymentView, StateRow, SubscriptionView, Sums, View,
-};
+pub use view::{StateRow, Sums};
 pub use world::World;

@@ -1,6 +1,6 @@
 //! What a book prepares.
 
-use crate::Book;
+use crate::book::Book;
 use kb_book::Answer;
 
 /// The book that a command makes, and its answer.

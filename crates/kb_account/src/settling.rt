@@ -4,18 +4,22 @@ ghost use Rattle.std.specs.Arc.{arc_value};
 ghost use Rattle.kb_days.specs.Calendar.{first_day, charged_days};
 ghost use Rattle.kb_book.specs.Rows.{IsUnprepared, first_refusal};
 ghost use Rattle.kb_book.specs.Steps as told;
-ghost use Rattle.kb_laws.specs.BilledBooks.{IsBilled};
-ghost use Rattle.kb_laws.specs.SoundBooks.{IsBook};
+ghost use Rattle.kb_book.specs.BilledBooks.{IsBilled};
+ghost use Rattle.kb_book.specs.SoundBooks.{IsBook};
 ghost use Rattle.kb_account.specs.Issues.{IsIssueOf, IsSettlement};
 ghost use Rattle.kb_account.specs.Prepares.{refusal_by};
 ghost use Rattle.kb_account.specs.Private.States.{value_of};
 
-use crate::{Book, Next, State, World, issue_all};
+use crate::billing::issue_all;
+use crate::book::Book;
+use crate::next::Next;
+use crate::state::State;
+use crate::world::World;
 use kb_base::NoMemory;
-use kb_billing::Issue;
 use kb_book::Unprepared;
-use kb_commands::Command;
+use kb_codec::Command;
 use kb_days::Day;
+use kb_tree::Issue;
 use std::alloc::Global;
 use std::sync::Arc;
 

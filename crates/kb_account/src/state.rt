@@ -4,9 +4,10 @@ ghost use Rattle.kb_book.specs.Dues.{facts_of};
 ghost use Rattle.kb_account.specs.Private.States.{value_of};
 ghost use Rattle.kb_account.specs.Private.Begins.{begun_of, IsBegun};
 
-use crate::{Begun, Kept, Move, World};
+use crate::begun::{Begun, Move};
+use crate::kept::Kept;
+use crate::world::World;
 use kb_base::NoMemory;
-use kb_billing::SubscriptionCharges;
 use kb_blocking::Blocks;
 use kb_credit::Invoices;
 use kb_days::{Bcd, Day, Name};
@@ -15,6 +16,7 @@ use kb_money::Currency;
 use kb_payment::Payments;
 use kb_sharing::SharedMap;
 use kb_timeline::Timeline;
+use kb_tree::SubscriptionCharges;
 use std::sync::Arc;
 
 /// All that an account is. What is charged stands for each subscription, in order of creation.

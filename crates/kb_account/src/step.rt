@@ -11,24 +11,29 @@ ghost use Rattle.kb_credit.specs.InvoiceRows.{credit, unpaid};
 ghost use Rattle.kb_book.specs.Rows.{IsUnprepared, first_refusal};
 ghost use Rattle.kb_book.specs.Edits.{begun};
 ghost use Rattle.kb_book.specs.Steps as told;
-ghost use Rattle.kb_laws.specs.BilledBooks.{IsBilled};
-ghost use Rattle.kb_laws.specs.SoundBooks.{IsBook};
+ghost use Rattle.kb_book.specs.BilledBooks.{IsBilled};
+ghost use Rattle.kb_book.specs.SoundBooks.{IsBook};
 ghost use Rattle.kb_account.specs.Issues.{IsIssueOf};
 ghost use Rattle.kb_account.specs.Private.States.{value_of};
 ghost use Rattle.kb_account.specs.Private.Begins.{begun_of, own_refusal, IsBegun};
 ghost use Rattle.kb_account.specs.Private.KeptAnswers.{kept_answer, kept_refusal, kept_after};
 
-use crate::{
-    Begun, Book, Kept, Next, State, World, invoices_after, key_of, leaves_due, with_own_line,
-};
+use crate::begun::Begun;
+use crate::billing::{leaves_due, with_own_line};
+use crate::book::Book;
+use crate::invoicing::invoices_after;
+use crate::kept::Kept;
+use crate::key::key_of;
+use crate::next::Next;
+use crate::state::State;
+use crate::world::World;
 use kb_base::NoMemory;
-use kb_billing::{Issue, SubscriptionCharges};
 use kb_book::{Answer, Refusal, Unprepared};
-use kb_codec::encode;
-use kb_commands::Command;
+use kb_codec::{Command, encode};
 use kb_credit::{Invoices, Line, total_of};
 use kb_days::{Day, Name};
 use kb_sharing::SharedMap;
+use kb_tree::{Issue, SubscriptionCharges};
 use std::alloc::Global;
 use std::sync::Arc;
 

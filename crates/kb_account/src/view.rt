@@ -11,26 +11,13 @@ mod states;
 mod subscription;
 mod sums;
 
-use crate::{Book, Query, World};
-pub use account::AccountView;
-pub use invoice::{InvoiceView, ItemView};
-use kb_book::{Refusal, Unprepared};
+use crate::book::Book;
+use crate::world::World;
+use kb_book::{Query, Refusal, Unprepared, View, asked_day};
 use kb_days::Day;
-use kb_terms::asked_day;
-pub use payment::PaymentView;
 pub use states::StateRow;
 use std::alloc::Global;
-pub use subscription::SubscriptionView;
 pub use sums::Sums;
-
-/// The answer to a query.
-#[derive(Drop)]
-pub enum View {
-    Account(AccountView),
-    Invoice(InvoiceView),
-    Payment(PaymentView),
-    Subscription(SubscriptionView),
-}
 
 impl Book {
     /// The answer to a query on a day. Refused if there is no such invoice (`NoInvoice`), no such payment

@@ -1,8 +1,8 @@
-pub mod Starts
-pub mod Lengths
-pub mod FirstMonths
-pub mod Neighbours
-pub mod Tiles
-pub mod Searches
 pub mod BoundaryDays
+pub mod FirstMonths
+pub mod Lengths
+pub mod Neighbours
 mod OneMonth
+pub mod Searches
+pub mod Starts
+pub mod Tiles

@@ -1,4 +1,4 @@
-pub mod Phases
 pub mod Between
 pub mod Boundaries
 pub mod PeriodDays
+pub mod Phases

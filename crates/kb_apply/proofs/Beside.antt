@@ -2,7 +2,7 @@
 use Rattle.std.proofs.Common.{◌≡◌, ℕ, Bool, List, refl, ap, subst}
 use Rattle.std.specs.Prelude.{◌||◌}
 use Rattle.kb_lane.specs.Lanes.{LaneValue}
-use Rattle.kb_lanes.specs.Places.{GoesAt}
+use Rattle.kb_desk.specs.Places.{GoesAt}
 use Rattle.kb_apply.specs.LaneRuns.{LanesValue}
 
 pub beside : {D G C : Type 0} (Goes : LaneValue D G → LaneValue D G → Type 0) (place : ℕ)

@@ -4,24 +4,24 @@ use Rattle.std.proofs.Common.{length, set, Some, Result, Ok, Err, arith, refl, a
 use Rattle.std.specs.List.{slice_get}
 use Rattle.kb_base.specs.Machine.{IsRun}
 use Rattle.kb_base.specs.Stream.{CutsFirst, IsDone, IsGivenUp}
-use Rattle.kb_commands.specs.declared.command.Command.{Command}
-use Rattle.kb_reply.specs.declared.reply.LaneReply.{LaneReply}
-use Rattle.kb_reply.specs.declared.step.Step.{Step}
-use Rattle.kb_request.specs.declared.fault.RequestFault.{RequestFault}
-use Rattle.kb_request.specs.declared.request.Request.{Request}
-use Rattle.kb_request.specs.declared.request.What.{What}
-use Rattle.kb_request.specs.declared.request.What.TheVariants as whats
-use Rattle.kb_say.specs.declared.said.Said.{Said}
-use Rattle.kb_machine.specs.Machines.{is_text}
+use Rattle.kb_codec.specs.declared.command.Command.{Command}
+use Rattle.kb_book.specs.declared.reply.LaneReply.{LaneReply}
+use Rattle.kb_book.specs.declared.step.Step.{Step}
+use Rattle.kb_json.specs.declared.fault.RequestFault.{RequestFault}
+use Rattle.kb_json.specs.declared.request.Request.{Request}
+use Rattle.kb_json.specs.declared.request.What.{What}
+use Rattle.kb_json.specs.declared.request.What.TheVariants as whats
+use Rattle.kb_json.specs.declared.said.Said.{Said}
+use Rattle.kb_codec.specs.Senders.{is_text}
 use Rattle.kb_lane.specs.Lanes.{LaneValue}
 use Rattle.kb_lane.proofs.Going.{itself_then, well_none, well_then}
-use Rattle.kb_lines.specs.declared.stop.Stop.{Stop}
-use Rattle.kb_lines.specs.declared.stop.Stop.TheVariants as stops
-use Rattle.kb_lines.specs.Reading.{IsStopped}
-use Rattle.kb_lanes.specs.Continuing.{Continues, ContinueAll}
+use Rattle.kb_runs.specs.declared.run_stop.RunStop.{RunStop}
+use Rattle.kb_runs.specs.declared.run_stop.RunStop.TheVariants as stops
+use Rattle.kb_runs.specs.Reading.{IsStopped}
+use Rattle.kb_desk.specs.Continuing.{Continues, ContinueAll}
 use Rattle.kb_apply.specs.LaneRuns.{Outside, LanesValue, TextFrom, LookUpFrom, DrainFrom, DrainPart}
-use Rattle.kb_lanes.specs.Places.{GoesAt}
 use Rattle.kb_apply.specs.LaneRuns.{ServesCommand, Serves, Answers, AnswersPart, lanes_machine}
+use Rattle.kb_desk.specs.Places.{GoesAt}
 
 -- one of some goes on, and each other stays as it is
 module _ {L : Type 0} (Goes : L → L → Type 0) (stays : (lane : L) → Goes lane lane) where
@@ -194,7 +194,7 @@ module _ {D G C : Type 0} (outside : Outside D G C) where
   done_continues bytes said first last is = run _ first last said is.ran
 
   -- one that is stopped
-  pub stopped_continues : (stop : Stop) (bytes said : List ℕ) (first last : LanesValue D G C)
+  pub stopped_continues : (stop : RunStop) (bytes said : List ℕ) (first last : LanesValue D G C)
       → IsStopped (lanes_machine outside) first stop bytes said last → GoOn first last
   stopped_continues stops.Input bytes said first last is = run _ first last said is.1.ran
   stopped_continues stops.Output bytes said first last is = given_up bytes _ first last is.answers

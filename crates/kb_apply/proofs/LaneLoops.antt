@@ -1,14 +1,13 @@
 -- What is done by one lane after another.
 use Rattle.std.proofs.Common.{◌≡◌, ℕ, zero, suc, ◌+◌, ◌-◌, ◌<◌, ◌≤◌, arith, true, false, inl, inr, refl, sym}
 use Rattle.std.proofs.Common.{subst}
-use Rattle.kb_commands.specs.declared.command.Command.{Command}
-use Rattle.kb_reply.specs.declared.reply.LaneReply.{LaneReply}
-use Rattle.kb_reply.specs.declared.step.Step.{Step}
-use Rattle.kb_reply.specs.declared.step.Step.TheVariants as steps
-use Rattle.kb_apply.specs.LaneRuns.{Outside, LanesValue, PerformsAt, TextFrom, LooksUpAt}
-use Rattle.kb_lanes.specs.Places.{is_taken_text}
-use Rattle.kb_apply.specs.LaneRuns.{LookUpFrom}
+use Rattle.kb_codec.specs.declared.command.Command.{Command}
+use Rattle.kb_book.specs.declared.reply.LaneReply.{LaneReply}
+use Rattle.kb_book.specs.declared.step.Step.{Step}
+use Rattle.kb_book.specs.declared.step.Step.TheVariants as steps
+use Rattle.kb_apply.specs.LaneRuns.{Outside, LanesValue, PerformsAt, TextFrom, LooksUpAt, LookUpFrom}
 use Rattle.kb_apply.specs.LaneRuns.{DrainsAt, DrainFrom, DrainPart}
+use Rattle.kb_desk.specs.Places.{is_taken_text}
 
 -- one place less is left
 left-one : (place last : ℕ) → place < last → last - place ≡ suc (last - (place + 1))

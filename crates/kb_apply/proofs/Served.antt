@@ -1,9 +1,9 @@
 -- What a query is shown.
 use Rattle.std.proofs.Common.{◌≡◌, Some, Result, Ok, Err, refl, sym, subst}
-use Rattle.kb_request.specs.declared.fault.RequestFault.TheVariants as faults
-use Rattle.kb_say.specs.declared.said.Said.TheVariants as says
+use Rattle.kb_json.specs.declared.fault.RequestFault.TheVariants as faults
+use Rattle.kb_json.specs.declared.said.Said.TheVariants as says
 use Rattle.kb_book.specs.declared.refusal.Refusal.{Refusal}
-use Rattle.kb_account.specs.declared.view.View.{View}
+use Rattle.kb_book.specs.declared.views.View.{View}
 use Rattle.kb_account.specs.Prepares.{refusal_by}
 use Rattle.kb_apply.specs.LaneRuns.{IsShown}
 

@@ -4,34 +4,34 @@ use Rattle.std.specs.Prelude.{slice_get, Option, Some, Result, Ok, Err, ⊤}
 use Rattle.kb_base.specs.Machine.{Machine}
 use Rattle.kb_gateway.specs.declared.order.Asked.{Asked}
 use Rattle.kb_gateway.specs.declared.told.Saying.{Saying}
-use Rattle.kb_commands.specs.declared.command.Command.{Command}
+use Rattle.kb_codec.specs.declared.command.Command.{Command}
 use Rattle.kb_book.specs.declared.refusal.Refusal.{Refusal}
-use Rattle.kb_account.specs.declared.query.Query.{Query}
-use Rattle.kb_account.specs.declared.view.View.{View}
-use Rattle.kb_reply.specs.declared.reply.LaneReply.{LaneReply}
-use Rattle.kb_reply.specs.declared.step.Step.{Step}
-use Rattle.kb_reply.specs.declared.step.Step.TheVariants as steps
-use Rattle.kb_machine.specs.Machines.{account_of, is_text}
+use Rattle.kb_book.specs.declared.query.Query.{Query}
+use Rattle.kb_book.specs.declared.views.View.{View}
+use Rattle.kb_book.specs.declared.reply.LaneReply.{LaneReply}
+use Rattle.kb_book.specs.declared.step.Step.{Step}
+use Rattle.kb_book.specs.declared.step.Step.TheVariants as steps
+use Rattle.kb_codec.specs.Senders.{is_text, account_of}
 use Rattle.kb_lane.specs.Lanes.{LaneValue, machine_of}
 use Rattle.kb_lane.specs.Replies.{Performs}
 use Rattle.kb_lane.specs.LookingUp.{LooksAllUp}
 use Rattle.kb_lane.specs.Reading.{asked_account, view_of}
-use Rattle.kb_bills.specs.Drains.{Drains}
-use Rattle.kb_clock.specs.NamedDays.{IsDayOf}
-use Rattle.kb_lanes.specs.Addressed.{account_on, first_lane, lanes_on}
-use Rattle.kb_lanes.specs.Continuing.{Continues}
-use Rattle.kb_lanes.specs.Places.{GoesAt, is_full_reply, is_full_step, is_taken_text}
+use Rattle.kb_lane.specs.Drains.{Drains}
+use Rattle.kb_ports.specs.NamedDays.{IsDayOf}
+use Rattle.kb_apply.specs.Addressed.{account_on, first_lane, lanes_on}
+use Rattle.kb_desk.specs.Continuing.{Continues}
+use Rattle.kb_desk.specs.Places.{GoesAt, is_full_reply, is_full_step, is_taken_text}
 use Rattle.kb_desk.specs.Lanes.{lane_of}
-use Rattle.kb_request.specs.declared.fault.RequestFault.{RequestFault}
-use Rattle.kb_request.specs.declared.fault.RequestFault.TheVariants as faults
-use Rattle.kb_request.specs.declared.request.Request.{Request}
-use Rattle.kb_request.specs.declared.request.What.{What}
-use Rattle.kb_request.specs.declared.request.What.TheVariants as whats
-use Rattle.kb_request.specs.Asked.{IsAsked}
-use Rattle.kb_request.specs.Requests.{ask}
-use Rattle.kb_say.specs.declared.said.Said.{Said}
-use Rattle.kb_say.specs.declared.said.Said.TheVariants as says
-use Rattle.kb_tell.specs.Telling.{Says, IsPartOf}
+use Rattle.kb_json.specs.declared.fault.RequestFault.{RequestFault}
+use Rattle.kb_json.specs.declared.fault.RequestFault.TheVariants as faults
+use Rattle.kb_json.specs.declared.request.Request.{Request}
+use Rattle.kb_json.specs.declared.request.What.{What}
+use Rattle.kb_json.specs.declared.request.What.TheVariants as whats
+use Rattle.kb_json.specs.Asked.{IsAsked}
+use Rattle.kb_json.specs.Requests.{ask}
+use Rattle.kb_json.specs.declared.said.Said.{Said}
+use Rattle.kb_json.specs.declared.said.Said.TheVariants as says
+use Rattle.kb_json.specs.Telling.{Says, IsPartOf}
 
 -- What is told of disks, gateways and a clock: whether a disk is honest, how many moments it had, what a
 -- crash since one may leave, and how often it failed; what a gateway was asked and said, and how often it

@@ -1,2 +1,3 @@
+pub mod Addressed
 pub mod Applying
 pub mod LaneRuns

@@ -1,27 +1,23 @@
 //! Lines, answered one after another.
 ghost use Rattle.std.specs.Prelude.{◌≡◌, ◌++◌, ◌+◌, List, ℕ, OnOk, OnErr, Ok, true, length};
-ghost use Rattle.kb_machine.specs.Machines.{is_callers, is_text};
+ghost use Rattle.kb_codec.specs.Senders.{is_callers, is_text};
 ghost use Rattle.kb_desk.specs.Lanes.{lane_of};
 ghost use Rattle.kb_lane.specs.Reading.{asked_account};
 ghost use Rattle.kb_apply.specs.LaneRuns.{outside_of, Answers, AnswersPart, IsShownAt, Serves, ServesCommand};
-ghost use Rattle.kb_request.specs.Callers.{IsCallers};
+ghost use Rattle.kb_json.specs.Callers.{IsCallers};
 
-use crate::Lanes;
-use kb_account::Query;
+use crate::addressed::{account_of, lanes_of, place_of};
+use crate::lanes::Lanes;
 use kb_base::NoMemory;
-use kb_book::Unprepared;
-use kb_clock::{Clock, day_or_today};
-use kb_commands::Command;
+use kb_book::{LaneReply, Query, Unprepared};
+use kb_codec::Command;
 use kb_days::Day;
 use kb_disk::Disk;
 use kb_gateway::Gateway;
+use kb_json::{Request, RequestFault, Said, What, read_request, tell};
 use kb_lane::account_asked;
-use kb_lanes::{account_of, lanes_of, place_of};
-use kb_lines::LineMachine;
-use kb_reply::LaneReply;
-use kb_request::{Request, RequestFault, What, read_request};
-use kb_say::Said;
-use kb_tell::tell;
+use kb_ports::{Clock, day_or_today};
+use kb_runs::LineMachine;
 use std::alloc::Global;
 
 impl<D: Disk, G: Gateway + Drop, C: Clock + Drop> LineMachine for Lanes<D, G, C> {

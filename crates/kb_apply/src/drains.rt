@@ -2,14 +2,14 @@
 ghost use Rattle.std.specs.Prelude.{◌≡◌, ◌≤◌, ◌<◌, ◌+◌, length, OnOk, OnErr};
 ghost use Rattle.kb_apply.specs.LaneRuns.{outside_of, DrainFrom, DrainPart, DrainsAt};
 
-use crate::Lanes;
+use crate::lanes::Lanes;
 use kb_base::NoMemory;
-use kb_clock::Clock;
+use kb_book::Step;
 use kb_days::Day;
+use kb_desk::{drain_in, is_full_step};
 use kb_disk::Disk;
 use kb_gateway::Gateway;
-use kb_lanes::{drain_in, is_full_step};
-use kb_reply::Step;
+use kb_ports::Clock;
 use std::alloc::Global;
 
 impl<D: Disk, G: Gateway + Drop, C: Clock + Drop> Lanes<D, G, C> {

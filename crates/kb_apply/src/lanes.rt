@@ -1,16 +1,16 @@
 //! Lanes, beside the clock by which they answer.
 ghost use Rattle.std.specs.Prelude.{◌≡◌, ◌≤◌, ◌<◌, true, false, length};
-ghost use Rattle.kb_machine.specs.Machines.{is_callers};
+ghost use Rattle.kb_codec.specs.Senders.{is_callers};
 ghost use Rattle.kb_apply.specs.LaneRuns.{outside_of, PerformsAt};
 
-use kb_clock::Clock;
-use kb_commands::Command;
+use kb_book::LaneReply;
+use kb_codec::Command;
 use kb_days::Day;
+use kb_desk::{is_full_reply, perform_in};
 use kb_disk::Disk;
 use kb_gateway::Gateway;
 use kb_lane::Lane;
-use kb_lanes::{is_full_reply, perform_in};
-use kb_reply::LaneReply;
+use kb_ports::Clock;
 use std::alloc::Global;
 use std::marker::Model;
 

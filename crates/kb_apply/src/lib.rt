@@ -6,6 +6,7 @@
 //! make the lanes and end the run.
 #![tactic(auto)]
 
+mod addressed;
 mod answer;
 mod apply;
 mod drains;
@@ -13,5 +14,5 @@ mod lanes;
 mod look_ups;
 mod texts;
 
-pub use apply::{ApplyStop, apply_lanes};
+pub use apply::apply_lanes;
 pub use lanes::Lanes;

@@ -2,13 +2,13 @@
 ghost use Rattle.std.specs.Prelude.{◌≡◌, ◌<◌, length};
 ghost use Rattle.kb_apply.specs.LaneRuns.{outside_of, LookUpFrom, LooksUpAt};
 
-use crate::Lanes;
-use kb_clock::Clock;
+use crate::lanes::Lanes;
+use kb_book::Step;
 use kb_days::Day;
+use kb_desk::{is_full_step, look_up_in};
 use kb_disk::Disk;
 use kb_gateway::Gateway;
-use kb_lanes::{is_full_step, look_up_in};
-use kb_reply::Step;
+use kb_ports::Clock;
 use std::alloc::Global;
 
 impl<D: Disk, G: Gateway + Drop, C: Clock + Drop> Lanes<D, G, C> {

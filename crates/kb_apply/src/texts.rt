@@ -1,16 +1,16 @@
 //! Texts, which go to all lanes.
 ghost use Rattle.std.specs.Prelude.{◌≡◌, ◌-◌, true, length};
-ghost use Rattle.kb_machine.specs.Machines.{is_callers};
+ghost use Rattle.kb_codec.specs.Senders.{is_callers};
 ghost use Rattle.kb_apply.specs.LaneRuns.{outside_of, TextFrom};
 
-use crate::Lanes;
-use kb_clock::Clock;
-use kb_commands::Command;
+use crate::lanes::Lanes;
+use kb_book::LaneReply;
+use kb_codec::Command;
 use kb_days::Day;
+use kb_desk::is_taken_text;
 use kb_disk::Disk;
 use kb_gateway::Gateway;
-use kb_lanes::is_taken_text;
-use kb_reply::LaneReply;
+use kb_ports::Clock;
 use std::alloc::Global;
 
 impl<D: Disk, G: Gateway + Drop, C: Clock + Drop> Lanes<D, G, C> {

@@ -1,8 +1,9 @@
 pub mod Faults
-pub mod Runs
 pub mod Intervals
 pub mod Lines
 pub mod Machine
+pub mod Notes
 pub mod Offenders
-pub mod Stream
 pub mod Private
+pub mod Runs
+pub mod Stream

@@ -2,7 +2,7 @@
 ghost use Rattle.std.specs.Prelude.{◌≡◌, ◌≤◌, ◌<◌, ℕ};
 ghost use Rattle.kb_base.specs.Faults.{next_count, add_counts, Rose};
 
-use crate::Failed;
+use crate::fault::Failed;
 use std::marker::Model;
 
 /// How many calls of an object have failed: a u64, which never falls and stands still at its last value.

@@ -1,7 +1,7 @@
 //! Lists that contracts see as their members alone.
 ghost use Rattle.std.specs.Prelude.{◌≡◌, ◌↔◌, ◌++◌, ◌∷◌, [], length, IsTrue, OnErr, OnOk};
 
-use crate::NoMemory;
+use crate::fault::NoMemory;
 use std::alloc::Global;
 use std::marker::Model;
 

@@ -2,7 +2,7 @@
 ghost use Rattle.std.specs.Prelude.{◌≡◌, map, IfOk};
 ghost use Rattle.std.specs.Arc.{arc_value};
 
-use crate::NoMemory;
+use crate::fault::NoMemory;
 use std::alloc::Global;
 use std::sync::Arc;
 

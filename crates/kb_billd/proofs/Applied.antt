@@ -1,27 +1,26 @@
 -- A run over lines of lanes that were opened and are given back.
-use Rattle.std.proofs.Common.{◌≡◌, ℕ, zero, suc, ◌≤◌, Bool, true, false, IsTrue, List, []}
-use Rattle.std.proofs.Common.{◌∷◌, length, Option, None, Some, IfSome, Result, Ok, Err, arith, refl}
-use Rattle.std.proofs.Common.{sym, subst, ◌∙◌}
+use Rattle.std.proofs.Common.{◌≡◌, ℕ, zero, suc, ◌≤◌, Bool, true, false, IsTrue, List, [], ◌∷◌, length}
+use Rattle.std.proofs.Common.{Option, None, Some, IfSome, Result, Ok, Err, arith, refl, sym, subst, ◌∙◌}
 use Rattle.std.specs.List.{slice_get}
 use Rattle.kb_base.specs.Faults.{Rose}
-use Rattle.kb_vault.specs.Vaults.{Opens}
+use Rattle.kb_disk.specs.Vaults.{Opens}
 use Rattle.kb_gateway.specs.declared.order.Asked.{Asked}
 use Rattle.kb_gateway.specs.declared.told.Saying.{Saying}
-use Rattle.kb_log.specs.Logs.{StandsForLog}
-use Rattle.kb_versions.proofs.BilledNow.{replays_are_billed_now}
-use Rattle.kb_versions.proofs.EvenNow.{replays_are_even_now}
+use Rattle.kb_lane.specs.Logs.{StandsForLog}
+use Rattle.kb_histories.proofs.BilledNow.{replays_are_billed_now}
+use Rattle.kb_histories.proofs.EvenNow.{replays_are_even_now}
 use Rattle.kb_lane.specs.Lanes.{LaneValue}
-use Rattle.kb_lines.specs.Reading.{Known}
-use Rattle.kb_apply.specs.declared.apply.ApplyStop.{ApplyStop}
-use Rattle.kb_apply.specs.declared.apply.ApplyStop.TheVariants as applied
+use Rattle.kb_runs.specs.Reading.{Known}
+use Rattle.kb_runs.specs.declared.stop.Stop.{Stop}
+use Rattle.kb_runs.specs.declared.stop.Stop.TheVariants as stops
 use Rattle.kb_apply.specs.Applying.{Applies}
-use Rattle.kb_lanes.specs.Stops.{any_stopped}
-use Rattle.kb_lanes.specs.Continuing.{Continues, ContinueAll}
+use Rattle.kb_desk.specs.Stops.{any_stopped}
+use Rattle.kb_desk.specs.Continuing.{Continues, ContinueAll}
 use Rattle.kb_apply.specs.LaneRuns.{LanesValue, Outside, outside_of, lanes_machine}
 use Rattle.kb_apply.proofs.Continuing.{done_continues, stopped_continues}
-use Rattle.kb_loading.specs.Folders.{VaultTold, DiskWords, words_of}
-use Rattle.kb_opening.specs.Openings.{AreOpened, AreServed}
-use Rattle.kb_opening.proofs.Closing.{as_out_as_before, others_as_before}
+use Rattle.kb_folder.specs.Folders.{VaultTold, DiskWords, words_of}
+use Rattle.kb_folder.specs.Openings.{AreOpened, AreServed}
+use Rattle.kb_folder.proofs.Closing.{as_out_as_before, others_as_before}
 use Rattle.kb_billd.specs.Runs.{RunsLanes}
 use Rattle.kb_billd.specs.Private.OpenRuns.{RunsOpen}
 
@@ -66,21 +65,26 @@ begun_is {D} {G} {C} made lanes clock are is none =
 module _ {D G C : Type 0} (outside : Outside D G C) (begun : LanesValue D G C)
     (left left_after written written_after : Known) where
   -- however a run ended, the lanes go on
-  further : (last : LanesValue D G C) (outcome : Result (Unit {0}) ApplyStop)
+  further : (last : LanesValue D G C) (outcome : Result (Unit {0}) Stop)
       → Applies (lanes_machine outside) begun left left_after written written_after last outcome
       → ContinueAll (Continues outside.honest outside.moment outside.left_since outside.fault_count)
       begun.lanes last.lanes
   further last (Ok done) ran =
       let told = ran.0.1 in done_continues outside told.0 told.2.0 begun last told.2.2.1
-  further last (Err applied.Disk) ran =
+  further last (Err stops.Disk) ran =
       let told = ran.0.1 in done_continues outside told.0 told.2.0 begun last told.2.2.1
-  further last (Err applied.Full) ran =
+  further last (Err stops.Full) ran =
       let told = ran.0.1 in done_continues outside told.0 told.2.0 begun last told.2.2.1
-  further last (Err (applied.Run stop)) ran =
+  further last (Err (stops.Run stop)) ran =
       stopped_continues outside stop ran.0 ran.2.0 begun last ran.2.2
+  further last (Err stops.Words) ran = absurd ran.1
+  further last (Err (stops.Journal lane at)) ran = absurd ran.1
+  further last (Err (stops.Text fault)) ran = absurd ran.1
+  further last (Err stops.Market) ran = absurd ran.1
+  further last (Err (stops.NotEmpty lane)) ran = absurd ran.1
 
   -- and there are as many as before
-  pub as_many : (last : LanesValue D G C) (outcome : Result (Unit {0}) ApplyStop)
+  pub as_many : (last : LanesValue D G C) (outcome : Result (Unit {0}) Stop)
       → Applies (lanes_machine outside) begun left left_after written written_after last outcome
       → length last.lanes ≡ length begun.lanes
   as_many last outcome ran = (further last outcome ran).count
@@ -101,7 +105,7 @@ module _ {D G C : Type 0} (honest : D → Bool) (seen : D → List ℕ) (images 
   begun = record { lanes = first; clock = clock; full = false }
 
   module _ (opened : AreOpened words folder (length first) old mid first)
-      (outcome : Result (Unit {0}) ApplyStop)
+      (outcome : Result (Unit {0}) Stop)
       (run : RunsOpen words outside folder first clock mid new left left_after written written_after outcome)
     where
       on : ContinueAll (Continues honest moment left_since fault_count) first run.last.lanes
@@ -131,7 +135,7 @@ module _ {D G C : Type 0} (honest : D → Bool) (seen : D → List ℕ) (images 
           (opened.each place one there).bytes).true_to_them))
 
       -- the disk failed: the vault's count rose
-      disk_rose : outcome ≡ Err applied.Disk → Rose old.faults new.faults
+      disk_rose : outcome ≡ Err stops.Disk → Rose old.faults new.faults
       disk_rose is = rw (← opened.calm) (rose (subst (Applies (lanes_machine outside) begun left
           left_after written
           written_after run.last) is run.ran).1)

@@ -1,10 +1,10 @@
 -- `apply`, by the gateway that is named.
 use Rattle.std.specs.Prelude.{⊤}
 use Rattle.std.proofs.Common.{◌≡◌, ℕ, List, Option, None, Some, Result, sym, subst}
-use Rattle.kb_lines.specs.Reading.{Known}
+use Rattle.kb_runs.specs.Reading.{Known}
 use Rattle.kb_apply.specs.LaneRuns.{Outside}
-use Rattle.kb_loading.specs.Folders.{VaultTold, DiskWords}
-use Rattle.kb_endings.specs.declared.stop.Stop.{Stop}
+use Rattle.kb_folder.specs.Folders.{VaultTold, DiskWords}
+use Rattle.kb_runs.specs.declared.stop.Stop.{Stop}
 use Rattle.kb_billd.specs.Runs.{AppliesFolder}
 use Rattle.kb_billd.specs.TopCall.{AppliesBy, around_of}
 

@@ -1,26 +1,25 @@
 -- What a run of the program leaves, whatever its words are.
 use Rattle.std.specs.Prelude.{⊤}
 use Rattle.std.proofs.Common.{◌≡◌, ℕ, inl, inr, arith, List, Option, None, Some, Result, Ok, Err}
-use Rattle.std.proofs.Common.{refl, sym, subst, ◌∙◌}
+use Rattle.std.proofs.Common.{false, sym, subst, ◌∙◌}
 use Rattle.kb_base.specs.Faults.{Rose}
-use Rattle.kb_vault.specs.Places.{SameLanes}
-use Rattle.kb_lines.specs.Reading.{Known}
+use Rattle.kb_disk.specs.Places.{SameLanes}
+use Rattle.kb_runs.specs.Reading.{Known}
 use Rattle.kb_words.specs.declared.words.Words.{Words}
 use Rattle.kb_words.specs.declared.words.Words.TheVariants as words
-use Rattle.kb_apply.specs.declared.apply.ApplyStop.{ApplyStop}
-use Rattle.kb_apply.specs.declared.apply.ApplyStop.TheVariants as applied
-use Rattle.kb_apply.specs.LaneRuns.{Outside}
-use Rattle.kb_loading.specs.declared.fault.Unopened.{Unopened}
-use Rattle.kb_loading.specs.declared.fault.Unopened.TheVariants as unopened
-use Rattle.kb_loading.specs.Folders.{VaultTold, DiskWords}
-use Rattle.kb_opening.specs.Openings.{IsCause}
-use Rattle.kb_endings.specs.declared.stop.Stop.{Stop}
-use Rattle.kb_endings.specs.declared.stop.Stop.TheVariants as stops
+use Rattle.kb_apply.specs.Applying.{Applies}
+use Rattle.kb_apply.specs.LaneRuns.{Outside, lanes_machine}
+use Rattle.kb_folder.specs.declared.unopened.Unopened.{Unopened}
+use Rattle.kb_folder.specs.declared.unopened.Unopened.TheVariants as unopened
+use Rattle.kb_folder.specs.Folders.{VaultTold, DiskWords}
+use Rattle.kb_folder.specs.Openings.{IsCause}
+use Rattle.kb_runs.specs.declared.stop.Stop.{Stop}
+use Rattle.kb_runs.specs.declared.stop.Stop.TheVariants as stops
 use Rattle.kb_reports.specs.declared.printing.Unprinted.{Unprinted}
 use Rattle.kb_reports.specs.declared.printing.Unprinted.TheVariants as unprinted
 use Rattle.kb_reports.specs.Listings.{Said}
 use Rattle.kb_billd.specs.Reports.{ReportsFolder, outcome_of_printing, said_by}
-use Rattle.kb_billd.specs.Runs.{AppliesFolder, outcome_of, stop_of_unopened}
+use Rattle.kb_billd.specs.Runs.{AppliesFolder, stop_of_unopened}
 use Rattle.kb_billd.specs.Summaries.{MakesBy}
 use Rattle.kb_billd.specs.TopCall.{AppliesBy, Around, Begins, Does, gateway_of}
 use Rattle.kb_billd.proofs.Founded.{founding_disk, founding_no_market}
@@ -58,32 +57,21 @@ module _ {D G C : Type 0} (disks : DiskWords D) (outside : Outside D G C) (serve
   applied_inside : AppliesFolder disks outside serves folder clock old new market market_after left left_after
       written written_after outcome → SameLanes new.is_out old.is_out
   applied_inside (inl (fault, told, leaves)) = leaves.same.out
-  applied_inside (inr (run, told, same, runs)) = runs.inside
+  applied_inside (inr (same, runs)) = runs.inside
 
   applied_disk : AppliesFolder disks outside serves folder clock old new market market_after left left_after
       written written_after outcome → outcome ≡ Err stops.Disk → Rose old.faults new.faults
   applied_disk (inl (fault, told, leaves)) is =
       unopened_disk folder old new market market_after fault (sym told ∙ is) leaves.cause
-  applied_disk (inr (run, told, same, runs)) is = runs.counted (by_run run (sym told ∙ is))
-    where
-      by_run : (run : Result (Unit {0}) ApplyStop) → outcome_of run ≡ Err stops.Disk → run ≡ Err applied.Disk
-      by_run (Ok done) same = absurd (cc)
-      by_run (Err applied.Disk) same = refl
-      by_run (Err applied.Full) same = absurd (cc)
-      by_run (Err (applied.Run stop)) same = absurd (cc)
+  applied_disk (inr (same, runs)) is = runs.counted is
 
   applied_market : AppliesFolder disks outside serves folder clock old new market market_after left left_after
       written written_after outcome → outcome ≡ Err stops.Market → Rose market market_after
   applied_market (inl (fault, told, leaves)) is =
       unopened_market folder old new market market_after fault (sym told ∙ is) leaves.cause
-  applied_market (inr (run, told, same, runs)) is = by_run run (sym told ∙ is)
-    where
-      by_run : (run : Result (Unit {0}) ApplyStop) → outcome_of run ≡ Err stops.Market
-          → Rose market market_after
-      by_run (Ok done) same = absurd (cc)
-      by_run (Err applied.Disk) same = absurd (cc)
-      by_run (Err applied.Full) same = absurd (cc)
-      by_run (Err (applied.Run stop)) same = absurd (cc)
+  applied_market (inr (same, runs)) is =
+      absurd (subst (Applies (lanes_machine outside) (record { lanes = runs.first; clock = clock; full = false })
+      left left_after written written_after runs.last) is runs.ran).1
 
 module _ {D : Type 0} (disks : DiskWords D) (folder : List ℕ) (said : Said) (old new : VaultTold)
     (written written_after : Known) (outcome : Result (Unit {0}) Stop) where

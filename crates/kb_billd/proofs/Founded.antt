@@ -2,15 +2,15 @@
 use Rattle.std.proofs.Common.{◌≡◌, ℕ, ◌+◌, ◌<◌, Result, Ok, Err, OnOk, refl, ◌∙◌, sym}
 use Rattle.kb_base.specs.Faults.{Rose}
 use Rattle.kb_catalog_text.specs.declared.fault.TextFault.{TextFault}
-use Rattle.kb_lines.specs.declared.stop.Stop.TheVariants as runs
+use Rattle.kb_runs.specs.declared.run_stop.RunStop.TheVariants as runs
 use Rattle.kb_words.specs.declared.words.Init.{Init}
-use Rattle.kb_vault.specs.Places.{SameLanes}
-use Rattle.kb_loading.specs.Folders.{VaultTold}
-use Rattle.kb_founding.specs.declared.fault.Unfounded.{Unfounded}
-use Rattle.kb_founding.specs.declared.fault.Unfounded.TheVariants as unfounded
-use Rattle.kb_founding.specs.Foundings.{FoundsWith, IsLeft, CountsFaults}
-use Rattle.kb_endings.specs.declared.stop.Stop.{Stop}
-use Rattle.kb_endings.specs.declared.stop.Stop.TheVariants as stops
+use Rattle.kb_disk.specs.Places.{SameLanes}
+use Rattle.kb_folder.specs.Folders.{VaultTold}
+use Rattle.kb_folder.specs.declared.unfounded.Unfounded.{Unfounded}
+use Rattle.kb_folder.specs.declared.unfounded.Unfounded.TheVariants as unfounded
+use Rattle.kb_folder.specs.Foundings.{FoundsWith, IsLeft, CountsFaults}
+use Rattle.kb_runs.specs.declared.stop.Stop.{Stop}
+use Rattle.kb_runs.specs.declared.stop.Stop.TheVariants as stops
 use Rattle.kb_billd.specs.Foundings.{FoundsFolder, Made, outcome_of_founding}
 
 module _ (today : ℕ) (init : Init) (old new : VaultTold) where

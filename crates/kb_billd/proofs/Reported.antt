@@ -2,16 +2,16 @@
 use Rattle.std.proofs.Common.{◌≡◌, ◌≤◌, ℕ, false, List, length, map, Result, Ok, Err, OnOk, OnErr, refl}
 use Rattle.kb_machine.specs.Machines.{MachineValue}
 use Rattle.kb_lane.specs.Lanes.{LaneValue, machine_of}
-use Rattle.kb_lines.specs.Reading.{Known}
-use Rattle.kb_lines.specs.declared.stop.Stop.TheVariants as runs
+use Rattle.kb_runs.specs.Reading.{Known}
+use Rattle.kb_runs.specs.declared.run_stop.RunStop.TheVariants as runs
 use Rattle.kb_gateway.specs.declared.no_market.NoGateway.{NoGateway}
-use Rattle.kb_loading.specs.Folders.{VaultTold, DiskWords}
-use Rattle.kb_opening.specs.Openings.{AreBack, AreOpened}
-use Rattle.kb_opening.proofs.Unchanged.{unchanged, uncounted}
+use Rattle.kb_folder.specs.Folders.{VaultTold, DiskWords}
+use Rattle.kb_folder.specs.Openings.{AreBack, AreOpened}
+use Rattle.kb_folder.proofs.Unchanged.{unchanged, uncounted}
 use Rattle.kb_reports.specs.declared.printing.Unprinted.{Unprinted}
 use Rattle.kb_reports.specs.declared.printing.Unprinted.TheVariants as unprinted
 use Rattle.kb_reports.specs.Listings.{Said, Prints, PrintsPart}
-use Rattle.kb_endings.specs.declared.stop.Stop.TheVariants as stops
+use Rattle.kb_runs.specs.declared.stop.Stop.TheVariants as stops
 use Rattle.kb_billd.specs.Reports.{PrintsBy, ReportsLanes, outcome_of_printing}
 
 -- what is printed whole or in part is printed by the outcome

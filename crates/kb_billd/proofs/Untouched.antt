@@ -1,14 +1,13 @@
 -- What is done by words, put together.
-use Rattle.std.proofs.Common.{◌≤◌, ◌⊎◌, ℕ, List, Option, None, Some, Result, arith, inl, inr}
-use Rattle.std.proofs.Common.{refl}
+use Rattle.std.proofs.Common.{◌≤◌, ◌⊎◌, ℕ, List, Option, None, Some, Result, arith, inl, inr, refl}
 use Rattle.std.specs.Io.KnownBytes.{Keeps}
 use Rattle.kb_base.specs.Faults.{Rose}
-use Rattle.kb_lines.specs.Reading.{Known}
+use Rattle.kb_runs.specs.Reading.{Known}
 use Rattle.kb_words.specs.declared.words.Init.{Init}
 use Rattle.kb_words.specs.declared.words.Make.{Make}
 use Rattle.kb_words.specs.declared.words.Report.{Report}
-use Rattle.kb_loading.specs.Folders.{VaultTold, DiskWords}
-use Rattle.kb_endings.specs.declared.stop.Stop.{Stop}
+use Rattle.kb_folder.specs.Folders.{VaultTold, DiskWords}
+use Rattle.kb_runs.specs.declared.stop.Stop.{Stop}
 use Rattle.kb_billd.specs.Foundings.{FoundsFolder}
 use Rattle.kb_billd.specs.Reports.{ReportsFolder, said_by}
 use Rattle.kb_billd.specs.Summaries.{MakesBy}

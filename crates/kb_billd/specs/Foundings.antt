@@ -1,14 +1,14 @@
 -- What the making of a folder's lanes leaves.
 use Rattle.std.specs.Prelude.{ℕ, ◌≡◌, ◌+◌, ◌<◌, IfSome, Result, Ok, Err, ⊤}
-use Rattle.kb_lines.specs.declared.stop.Stop.TheVariants as runs
+use Rattle.kb_runs.specs.declared.run_stop.RunStop.TheVariants as runs
 use Rattle.kb_words.specs.declared.words.Init.{Init}
-use Rattle.kb_vault.specs.Places.{SameLanes, SameFiles}
-use Rattle.kb_loading.specs.Folders.{VaultTold}
-use Rattle.kb_founding.specs.declared.fault.Unfounded.{Unfounded}
-use Rattle.kb_founding.specs.declared.fault.Unfounded.TheVariants as unfounded
-use Rattle.kb_founding.specs.Foundings.{CountsFaults, FoundsWith, IsLeft, SameFrom, TellsFault, text_fault}
-use Rattle.kb_endings.specs.declared.stop.Stop.{Stop}
-use Rattle.kb_endings.specs.declared.stop.Stop.TheVariants as stops
+use Rattle.kb_disk.specs.Places.{SameLanes, SameFiles}
+use Rattle.kb_folder.specs.Folders.{VaultTold}
+use Rattle.kb_folder.specs.declared.unfounded.Unfounded.{Unfounded}
+use Rattle.kb_folder.specs.declared.unfounded.Unfounded.TheVariants as unfounded
+use Rattle.kb_folder.specs.Foundings.{CountsFaults, FoundsWith, IsLeft, SameFrom, TellsFault, text_fault}
+use Rattle.kb_runs.specs.declared.stop.Stop.{Stop}
+use Rattle.kb_runs.specs.declared.stop.Stop.TheVariants as stops
 
 -- what stops the program where lanes aren't founded
 abbrev pub stop_of_unfounded : Unfounded → Stop

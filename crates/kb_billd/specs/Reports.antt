@@ -3,21 +3,21 @@ use Rattle.std.specs.Prelude.{ℕ, ◌≡◌, ◌≤◌, ◌⊎◌, List, length
 use Rattle.std.specs.Io.KnownBytes.{Keeps}
 use Rattle.kb_machine.specs.Machines.{MachineValue}
 use Rattle.kb_lane.specs.Lanes.{LaneValue, machine_of}
-use Rattle.kb_lines.specs.Reading.{Known}
-use Rattle.kb_lines.specs.declared.stop.Stop.TheVariants as runs
-use Rattle.kb_options.specs.declared.report_kind.ReportKind.{ReportKind}
-use Rattle.kb_options.specs.declared.report_kind.ReportKind.TheVariants as kinds
-use Rattle.kb_loading.specs.declared.fault.Unopened.{Unopened}
+use Rattle.kb_runs.specs.Reading.{Known}
+use Rattle.kb_runs.specs.declared.run_stop.RunStop.TheVariants as runs
+use Rattle.kb_words.specs.declared.report_kind.ReportKind.{ReportKind}
+use Rattle.kb_words.specs.declared.report_kind.ReportKind.TheVariants as kinds
+use Rattle.kb_folder.specs.declared.unopened.Unopened.{Unopened}
 use Rattle.kb_gateway.specs.declared.no_market.NoGateway.{NoGateway}
-use Rattle.kb_loading.specs.Folders.{VaultTold, DiskWords}
-use Rattle.kb_loading.specs.OneLane.{IsOpened}
-use Rattle.kb_opening.specs.Openings.{IsAsBefore, IsCause, IsFirstOfThem}
+use Rattle.kb_folder.specs.Folders.{VaultTold, DiskWords}
+use Rattle.kb_folder.specs.OneLane.{IsOpened}
+use Rattle.kb_folder.specs.Openings.{IsAsBefore, IsCause, IsFirstOfThem}
 use Rattle.kb_reports.specs.declared.printing.Unprinted.{Unprinted}
 use Rattle.kb_reports.specs.declared.printing.Unprinted.TheVariants as unprinted
 use Rattle.kb_reports.specs.Listings.{Said, Prints, PrintsPart}
 use Rattle.kb_reports.specs.ReportLines.{balances_of, arrears_of, states_on}
-use Rattle.kb_endings.specs.declared.stop.Stop.{Stop}
-use Rattle.kb_endings.specs.declared.stop.Stop.TheVariants as stops
+use Rattle.kb_runs.specs.declared.stop.Stop.{Stop}
+use Rattle.kb_runs.specs.declared.stop.Stop.TheVariants as stops
 use Rattle.kb_billd.specs.Runs.{stop_of_unopened}
 
 -- what a report of a kind says of an account on a day

@@ -1,30 +1,27 @@
 -- What a run of a folder's lanes over lines does.
-use Rattle.std.specs.Prelude.{ℕ, ◌≡◌, ◌≤◌, ◌⊎◌, false, List, length, slice_get, Option, Some}
-use Rattle.std.specs.Prelude.{IfSome}
-use Rattle.std.specs.Prelude.{Result, Ok, Err}
+use Rattle.std.specs.Prelude.{ℕ, ◌≡◌, ◌≤◌, ◌⊎◌, false, List, length, slice_get, Option, Some, IfSome, Result}
+use Rattle.std.specs.Prelude.{Ok, Err}
 use Rattle.std.specs.Io.KnownBytes.{Keeps}
 use Rattle.kb_base.specs.Faults.{Rose}
-use Rattle.kb_vault.specs.Places.{is_among, SameLanes, SameFiles}
+use Rattle.kb_disk.specs.Places.{is_among, SameLanes, SameFiles}
 use Rattle.kb_gateway.specs.declared.order.Asked.{Asked}
-use Rattle.kb_log.specs.Logs.{StandsForLog}
-use Rattle.kb_versions.specs.BilledNow.{AreBilledNow}
-use Rattle.kb_versions.specs.EvenNow.{AreEvenNow}
+use Rattle.kb_lane.specs.Logs.{StandsForLog}
+use Rattle.kb_histories.specs.BilledNow.{AreBilledNow}
+use Rattle.kb_histories.specs.EvenNow.{AreEvenNow}
 use Rattle.kb_lane.specs.Asking.{WasAskedOnce}
 use Rattle.kb_lane.specs.Lanes.{LaneValue, machine_of, opened_of}
-use Rattle.kb_lines.specs.Reading.{Known}
-use Rattle.kb_lines.specs.declared.stop.Stop.TheVariants as runs
-use Rattle.kb_apply.specs.declared.apply.ApplyStop.{ApplyStop}
-use Rattle.kb_apply.specs.declared.apply.ApplyStop.TheVariants as applied
+use Rattle.kb_runs.specs.Reading.{Known}
+use Rattle.kb_runs.specs.declared.run_stop.RunStop.TheVariants as runs
 use Rattle.kb_apply.specs.Applying.{Applies}
-use Rattle.kb_lanes.specs.Continuing.{Continues, ContinueAll}
+use Rattle.kb_desk.specs.Continuing.{Continues, ContinueAll}
 use Rattle.kb_apply.specs.LaneRuns.{LanesValue, Outside, lanes_machine}
-use Rattle.kb_loading.specs.declared.fault.Unopened.{Unopened}
-use Rattle.kb_loading.specs.declared.fault.Unopened.TheVariants as unopened
-use Rattle.kb_loading.specs.Folders.{VaultTold, DiskWords}
-use Rattle.kb_loading.specs.OneLane.{IsOpened}
-use Rattle.kb_opening.specs.Openings.{AreServed, IsAsBefore, IsCause, IsFirstOfThem}
-use Rattle.kb_endings.specs.declared.stop.Stop.{Stop}
-use Rattle.kb_endings.specs.declared.stop.Stop.TheVariants as stops
+use Rattle.kb_folder.specs.declared.unopened.Unopened.{Unopened}
+use Rattle.kb_folder.specs.declared.unopened.Unopened.TheVariants as unopened
+use Rattle.kb_folder.specs.Folders.{VaultTold, DiskWords}
+use Rattle.kb_folder.specs.OneLane.{IsOpened}
+use Rattle.kb_folder.specs.Openings.{AreServed, IsAsBefore, IsCause, IsFirstOfThem}
+use Rattle.kb_runs.specs.declared.stop.Stop.{Stop}
+use Rattle.kb_runs.specs.declared.stop.Stop.TheVariants as stops
 
 -- What holds of a lane after whatever commands came: each day of each account has exactly the charge that
 -- is due, or none, and its invoices total what all days cost; credit is exactly by how much payments exceed
@@ -42,7 +39,7 @@ pub record IsSoundLane {D G : Type 0} (asked : G → Option (List Asked)) (lane 
 pub record RunsLanes {D G C : Type 0} (words : DiskWords D) (outside : Outside D G C)
     (serves : G → ℕ → Type 0)
     (folder : List ℕ) (clock : C) (old new : VaultTold) (left left_after written written_after : Known)
-    (outcome : Result (Unit {0}) ApplyStop) : Type 0 where
+    (outcome : Result (Unit {0}) Stop) : Type 0 where
   pub first : List (LaneValue D G)
   pub last : LanesValue D G C
   pub some : 1 ≤ length first
@@ -59,27 +56,18 @@ pub record RunsLanes {D G C : Type 0} (words : DiskWords D) (outside : Outside D
   pub stands : (place : ℕ) (lane : LaneValue D G) → slice_get last.lanes place ≡ Some lane
       → IfSome (old.lane_bytes folder place) (λ before. IfSome (new.lane_bytes folder place)
       (StandsForLog lane.log))
-  pub counted : outcome ≡ Err applied.Disk → Rose old.faults new.faults
+  pub counted : outcome ≡ Err stops.Disk → Rose old.faults new.faults
   pub inside : SameLanes new.is_out old.is_out
   pub others : (this_folder : List ℕ) (this : ℕ) → is_among folder (length first) this_folder this ≡ false
       → new.lane_bytes this_folder this ≡ old.lane_bytes this_folder this
   pub files : SameFiles new.file_bytes old.file_bytes
 
--- what stops the program where lanes aren't opened, and where a run of lanes doesn't end well
+-- what stops the program where lanes aren't opened
 abbrev pub stop_of_unopened : Unopened → Stop
 stop_of_unopened unopened.Disk = stops.Disk
 stop_of_unopened unopened.NoMemory = stops.Run runs.Memory
 stop_of_unopened (unopened.Journal lane at) = stops.Journal lane at
 stop_of_unopened unopened.Market = stops.Market
-
-abbrev pub stop_of_run : ApplyStop → Stop
-stop_of_run (applied.Run stop) = stops.Run stop
-stop_of_run applied.Disk = stops.Disk
-stop_of_run applied.Full = stops.Full
-
-abbrev pub outcome_of : Result (Unit {0}) ApplyStop → Result (Unit {0}) Stop
-outcome_of (Ok done) = Ok done
-outcome_of (Err stop) = Err (stop_of_run stop)
 
 -- The lanes of a folder weren't opened: nothing is read, nothing is written, and no lane has other bytes.
 pub record LeavesFolder (folder : List ℕ) (old new : VaultTold) (market market_after : ℕ)
@@ -98,5 +86,5 @@ AppliesFolder words outside serves folder clock old new market market_after left
     outcome =
     ((fault : Unopened) × (outcome ≡ Err (stop_of_unopened fault))
     × LeavesFolder folder old new market market_after left left_after written written_after fault)
-    ⊎ ((run : Result (Unit {0}) ApplyStop) × (outcome ≡ outcome_of run) × (market_after ≡ market)
-    × RunsLanes words outside serves folder clock old new left left_after written written_after run)
+    ⊎ ((market_after ≡ market)
+    × RunsLanes words outside serves folder clock old new left left_after written written_after outcome)

@@ -2,12 +2,12 @@
 use Rattle.std.specs.Prelude.{◌≡◌, ◌++◌, List, ℕ, Result, Ok, Err}
 use Rattle.std.specs.Io.KnownBytes.{Appends, Keeps}
 use Rattle.kb_base.specs.Stream.{Writes}
-use Rattle.kb_lines.specs.Reading.{Known}
-use Rattle.kb_lines.specs.declared.stop.Stop.TheVariants as runs
+use Rattle.kb_runs.specs.Reading.{Known}
+use Rattle.kb_runs.specs.declared.run_stop.RunStop.TheVariants as runs
 use Rattle.kb_words.specs.declared.words.Make.{Make}
 use Rattle.kb_make.specs.Summaries.{IsSummary}
-use Rattle.kb_endings.specs.declared.stop.Stop.{Stop}
-use Rattle.kb_endings.specs.declared.stop.Stop.TheVariants as stops
+use Rattle.kb_runs.specs.declared.stop.Stop.{Stop}
+use Rattle.kb_runs.specs.declared.stop.Stop.TheVariants as stops
 
 -- The summary of what a seed makes is printed; or a first part of it, where the output failed; or nothing,
 -- where memory ran out.

@@ -1,23 +1,22 @@
 -- What the program does by its words.
 use Rattle.std.specs.Prelude.{ℕ, ◌≡◌, ◌≤◌, ◌⊎◌, ⊤, Bool, List, codes, bytes_eq, if◌then◌else◌, Option, Some}
-use Rattle.std.specs.Prelude.{None, IfSome, refl}
-use Rattle.std.specs.Prelude.{Result, Err}
+use Rattle.std.specs.Prelude.{None, IfSome, refl, Result, Err}
 use Rattle.std.specs.Io.KnownBytes.{Keeps}
 use Rattle.kb_days.specs.Calendar.{first_day, last_day}
-use Rattle.kb_lines.specs.Reading.{Known}
-use Rattle.kb_lines.specs.declared.stop.Stop.TheVariants as runs
+use Rattle.kb_runs.specs.Reading.{Known}
+use Rattle.kb_runs.specs.declared.run_stop.RunStop.TheVariants as runs
 use Rattle.kb_words.specs.declared.words.Init.{Init}
 use Rattle.kb_words.specs.declared.words.Make.{Make}
 use Rattle.kb_words.specs.declared.words.Report.{Report}
 use Rattle.kb_words.specs.declared.words.Words.{Words}
 use Rattle.kb_words.specs.declared.words.Words.TheVariants as words
-use Rattle.kb_vault.specs.Places.{SameLanes, SameFiles}
+use Rattle.kb_disk.specs.Places.{SameLanes, SameFiles}
 use Rattle.kb_apply.specs.LaneRuns.{Outside, outside_of}
-use Rattle.kb_loading.specs.Folders.{VaultTold, DiskWords}
+use Rattle.kb_folder.specs.Folders.{VaultTold, DiskWords}
 use Rattle.kb_gateway.specs.declared.no_market.NoGateway.{NoGateway}
-use Rattle.kb_endings.specs.Endings.{Closes}
-use Rattle.kb_endings.specs.declared.stop.Stop.{Stop}
-use Rattle.kb_endings.specs.declared.stop.Stop.TheVariants as stops
+use Rattle.kb_runs.specs.Endings.{Closes}
+use Rattle.kb_runs.specs.declared.stop.Stop.{Stop}
+use Rattle.kb_runs.specs.declared.stop.Stop.TheVariants as stops
 use Rattle.kb_billd.specs.Foundings.{FoundsFolder}
 use Rattle.kb_billd.specs.Reports.{ReportsFolder, said_by}
 use Rattle.kb_billd.specs.Runs.{AppliesFolder}

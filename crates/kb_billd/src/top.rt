@@ -3,25 +3,22 @@ ghost use Rattle.std.specs.Prelude.{◌≡◌, ◌≤◌, ℕ, List, Err, Some, 
 ghost use Rattle.std.specs.Prelude.{string_bytes};
 ghost use Rattle.kb_base.specs.Faults.{Rose};
 ghost use Rattle.kb_apply.specs.LaneRuns.{outside_of};
-ghost use Rattle.kb_lines.specs.declared.stop.Stop.TheVariants.{Input, Output};
-ghost use Rattle.kb_vault.specs.Places.{SameLanes};
-ghost use Rattle.kb_loading.specs.Folders.{told_of, words_of};
+ghost use Rattle.kb_runs.specs.declared.run_stop.RunStop.TheVariants.{Input, Output};
+ghost use Rattle.kb_disk.specs.Places.{SameLanes};
+ghost use Rattle.kb_folder.specs.Folders.{told_of, words_of};
 ghost use Rattle.kb_words.specs.Grammar.{words_of as words_read};
-ghost use Rattle.kb_endings.specs.declared.stop.Stop.TheVariants as stops;
+ghost use Rattle.kb_runs.specs.declared.stop.Stop.TheVariants as stops;
 ghost use Rattle.kb_billd.specs.TopCall.{alone, around_of, gateway_of, AppliesBy, Begins, Does, Ends};
 ghost use Rattle.kb_billd.specs.TopCall.{IsToday};
 ghost use Rattle.kb_billd.specs.Foundings.{FoundsFolder};
 ghost use Rattle.kb_billd.specs.Reports.{ReportsFolder, said_by};
 
 use crate::command::{apply_folder, init_folder, make_accounts, report_folder};
-use kb_clock::Clock;
-use kb_endings::{Stop, close};
+use kb_disk::Vault;
 use kb_gateway::{Market, NoMarket};
-use kb_lines::Stop as RunStop;
-use kb_options::Text;
-use kb_ports::{Sink, Source};
-use kb_vault::Vault;
-use kb_words::{Apply, Init, Report, Words, WordsFault, read_words};
+use kb_ports::{Clock, Sink, Source};
+use kb_runs::{RunStop, Stop, close};
+use kb_words::{Apply, Init, Report, Text, Words, WordsFault, read_words};
 use std::alloc::Global;
 
 /// Does what the words say, which are those behind the program's name, and gives the exit status. No lane

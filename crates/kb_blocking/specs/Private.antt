@@ -1,3 +1,4 @@
--- What private contracts and proofs cite, and no reader has to.
 pub mod Stays
 pub mod Stretches
+
+-- What private contracts and proofs cite, and no reader has to.

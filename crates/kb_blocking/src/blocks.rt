@@ -4,9 +4,9 @@ ghost use Rattle.std.specs.Prelude.{◌≡◌, ◌<◌, ◌≤◌, ◌↔◌, �
 ghost use Rattle.std.specs.Prelude.{Err, IfOk};
 ghost use Rattle.kb_blocking.specs.Blocking.{max_states, is_on, turns};
 
+use crate::state::{BlockState, Chain, Flag};
 use crate::stay::{Stay, is_any_on, with_stay};
 use crate::turning::turning_days;
-use crate::{BlockState, Chain, Flag};
 use kb_base::{NoMemory, Seq};
 use kb_days::{Day, Reach};
 use std::alloc::Global;

@@ -2,7 +2,7 @@
 ghost use Rattle.std.specs.Prelude.{◌≡◌};
 ghost use Rattle.kb_blocking.specs.Blocking.{is_place, is_on_chain};
 
-use crate::{Chain, Scope};
+use crate::state::{Chain, Scope};
 
 /// Whether a scope is on a chain: the account always is.
 pub(crate) fn is_on_chain(chain: Chain, scope: Scope) -> bool

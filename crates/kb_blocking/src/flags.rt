@@ -2,7 +2,7 @@
 ghost use Rattle.std.specs.Prelude.{◌≡◌};
 ghost use Rattle.kb_blocking.specs.Blocking.{has_flag};
 
-use crate::{Flag, Flags};
+use crate::state::{Flag, Flags};
 
 /// Whether a state has a flag on.
 pub(crate) fn has_flag(flag: Flag, flags: Flags) -> bool

@@ -2,7 +2,7 @@
 ghost use Rattle.std.specs.Prelude.{◌≡◌};
 ghost use Rattle.kb_blocking.specs.Blocking.{same_scope, same_matter};
 
-use crate::{BlockState, Scope};
+use crate::state::{BlockState, Scope};
 
 /// Whether two states have one scope and service.
 pub(crate) fn is_same_matter(state: &BlockState, other: &BlockState) -> bool

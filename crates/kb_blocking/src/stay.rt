@@ -7,7 +7,7 @@ ghost use Rattle.kb_blocking.specs.Private.Stays.{earlier_of, sooner, first_afte
 use crate::chain::is_on_chain;
 use crate::flags::has_flag;
 use crate::matter::is_same_matter;
-use crate::{BlockState, Chain, Flag};
+use crate::state::{BlockState, Chain, Flag};
 use kb_base::{NoMemory, Seq};
 use kb_days::Day;
 use std::alloc::Global;

@@ -2,8 +2,8 @@
 ghost use Rattle.std.specs.Prelude.{◌≡◌, ◌<◌, All, Some, IfOk};
 ghost use Rattle.kb_blocking.specs.Private.Stretches.{stretches_of, touches, later_end};
 
+use crate::state::{Chain, Flag};
 use crate::stay::{Stay, counts, has_day};
-use crate::{Chain, Flag};
 use kb_base::NoMemory;
 use kb_days::Day;
 use std::alloc::Global;

@@ -1,7 +1,7 @@
 //! Blocking states among threads: the check proves here that threads may hand them on, and lend them to each
 //! other.
 
-use crate::Blocks;
+use crate::blocks::Blocks;
 
 /// Blocking states are among the values that threads may share.
 fn blocks_are_shared(blocks: &Blocks) {

@@ -8,9 +8,9 @@ ghost use Rattle.kb_blocking.specs.Blocking.{differ};
 ghost use Rattle.kb_blocking.specs.Private.Stays.{counts_on};
 ghost use Rattle.kb_blocking.specs.Private.Stretches.{turn_days};
 
+use crate::state::{Chain, Flag};
 use crate::stay::Stay;
 use crate::stretch::{Stretch, later_end, stretches_of, touches};
-use crate::{Chain, Flag};
 use kb_base::NoMemory;
 use kb_days::Day;
 use std::alloc::Global;

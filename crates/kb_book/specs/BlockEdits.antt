@@ -6,9 +6,9 @@ use Rattle.kb_blocking.specs.declared.state.Scope.TheVariants as scope
 use Rattle.kb_blocking.specs.declared.state.Flags.{Flags}
 use Rattle.kb_blocking.specs.declared.state.BlockState.{BlockState}
 use Rattle.kb_overdue.specs.declared.state.OverdueState.{OverdueState}
-use Rattle.kb_commands.specs.declared.command.Block.{Block}
-use Rattle.kb_commands.specs.declared.scope.BlockScope.{BlockScope}
-use Rattle.kb_commands.specs.declared.scope.BlockScope.TheVariants as scopes
+use Rattle.kb_codec.specs.declared.command.Block.{Block}
+use Rattle.kb_codec.specs.declared.scope.BlockScope.{BlockScope}
+use Rattle.kb_codec.specs.declared.scope.BlockScope.TheVariants as scopes
 
 -- a blocking state is accepted after the others
 abbrev pub with_state : List BlockState → BlockState → List BlockState

@@ -3,9 +3,9 @@ use Rattle.std.specs.Prelude.{ℕ, Bool, not, ◌||◌, nat_le, List, [], ◌∷
 use Rattle.kb_timeline.specs.TimelineEdits.{TimelineValue, bundle_named, subscription_named}
 use Rattle.kb_blocking.specs.declared.state.BlockState.{BlockState}
 use Rattle.kb_blocking.specs.Blocking.{max_states}
-use Rattle.kb_commands.specs.declared.command.Block.{Block}
-use Rattle.kb_commands.specs.declared.scope.BlockScope.{BlockScope}
-use Rattle.kb_commands.specs.declared.scope.BlockScope.TheVariants as scopes
+use Rattle.kb_codec.specs.declared.command.Block.{Block}
+use Rattle.kb_codec.specs.declared.scope.BlockScope.{BlockScope}
+use Rattle.kb_codec.specs.declared.scope.BlockScope.TheVariants as scopes
 use Rattle.kb_book.specs.declared.refusal.Refusal.TheVariants as refusal
 use Rattle.kb_book.specs.Rows.{Rows, limit}
 

@@ -7,7 +7,7 @@ use Rattle.kb_payment.specs.PaymentEdits.{no_payments}
 use Rattle.kb_credit.specs.InvoiceRows.{InvoicesValue}
 use Rattle.kb_credit.specs.InvoiceEdits.{no_invoices}
 use Rattle.kb_book.specs.declared.answer.Answer.{Answer}
-use Rattle.kb_book.specs.Issues.{SubscriptionItems}
+use Rattle.kb_tree.specs.Issues.{SubscriptionItems}
 
 -- what is kept of an accepted command for good: its spelling, and its answer
 pub record Kept : Type 0 where

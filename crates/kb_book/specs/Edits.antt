@@ -10,12 +10,12 @@ use Rattle.kb_blocking.specs.declared.state.BlockState.{BlockState}
 use Rattle.kb_overdue.specs.declared.state.OverdueState.{OverdueState}
 use Rattle.kb_payment.specs.PaymentSums.{PaymentsValue}
 use Rattle.kb_payment.specs.PaymentEdits.{purchased, refunded, charged_back, settled}
-use Rattle.kb_commands.specs.declared.command.Command.{Command}
-use Rattle.kb_commands.specs.declared.command.Command.TheVariants as kinds
-use Rattle.kb_commands.specs.declared.command.Create.{Create}
-use Rattle.kb_terms.specs.Wishes.{asked_day}
+use Rattle.kb_codec.specs.declared.command.Command.{Command}
+use Rattle.kb_codec.specs.declared.command.Command.TheVariants as kinds
+use Rattle.kb_codec.specs.declared.command.Create.{Create}
+use Rattle.kb_book.specs.Wishes.{asked_day}
 use Rattle.kb_book.specs.Worlds.{WorldValue}
-use Rattle.kb_book.specs.Issues.{no_items}
+use Rattle.kb_tree.specs.Issues.{no_items}
 use Rattle.kb_book.specs.Books.{BookValue}
 use Rattle.kb_book.specs.Dues.{facts_of}
 use Rattle.kb_book.specs.SubscriptionEdits.{started, with_change, with_cancel, with_uncancel}

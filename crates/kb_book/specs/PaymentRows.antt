@@ -10,8 +10,8 @@ use Rattle.kb_payment.specs.PaymentSums.{PaymentsValue, attempt_of}
 use Rattle.kb_payment.specs.PaymentEdits.{purchase_fault, give_back_fault}
 use Rattle.kb_credit.specs.declared.row.Row.{Row}
 use Rattle.kb_credit.specs.InvoiceRows.{InvoicesValue, numbered, balance_of}
-use Rattle.kb_members.specs.Members.{status_byte}
-use Rattle.kb_commands.specs.declared.command.Pay.{Pay}
+use Rattle.kb_codec.specs.Members.{status_byte}
+use Rattle.kb_codec.specs.declared.command.Pay.{Pay}
 use Rattle.kb_book.specs.declared.refusal.Refusal.{Refusal}
 use Rattle.kb_book.specs.declared.refusal.Refusal.TheVariants as refusal
 use Rattle.kb_book.specs.Rows.{Rows}

@@ -2,8 +2,8 @@
 use Rattle.std.specs.Prelude.{ℕ, ◌^◌, Bool, true, not, nat_lt, [], ◌∷◌}
 use Rattle.kb_payment.specs.PaymentSums.{PaymentsValue}
 use Rattle.kb_credit.specs.InvoiceRows.{InvoicesValue}
-use Rattle.kb_commands.specs.declared.command.Command.{Command}
-use Rattle.kb_commands.specs.declared.command.Command.TheVariants as kinds
+use Rattle.kb_codec.specs.declared.command.Command.{Command}
+use Rattle.kb_codec.specs.declared.command.Command.TheVariants as kinds
 use Rattle.kb_book.specs.declared.refusal.Refusal.TheVariants as refusal
 use Rattle.kb_book.specs.Rows.{Rows}
 use Rattle.kb_book.specs.SubscriptionRows.{create_rows, change_rows_of, cancel_rows_of, uncancel_rows_of}

@@ -5,7 +5,7 @@ use Rattle.kb_base.specs.Runs.{runs}
 use Rattle.kb_days.specs.Calendar.{month_of, month_after, month_start, month_length}
 use Rattle.kb_days.specs.Dates.{march}
 use Rattle.kb_days.specs.declared.period.Period.TheVariants.{Monthly}
-use Rattle.kb_valid.specs.SmallVersion.{small}
+use Rattle.kb_catalog.specs.SmallVersion.{small}
 use Rattle.kb_align.specs.Phases.{phase_on, phase_starts}
 use Rattle.kb_align.specs.PeriodDays.{period_on, last_day_on, next_day_after, is_boundary, first_month}
 use Rattle.kb_blocking.specs.Blocking.{is_on}
@@ -14,10 +14,9 @@ use Rattle.kb_due.specs.DueDays.{due_on, fee_on}
 use Rattle.kb_payment.specs.declared.attempt.Status.TheVariants.{Success}
 use Rattle.kb_tree.specs.Repairs.{new_repairs, new_bills}
 use Rattle.kb_tree.specs.Amounts.{days_cost}
-use Rattle.kb_members.specs.Members.{name_bytes, period_bytes}
-use Rattle.kb_members.specs.Members.{optional_bytes, day_bytes, four_bytes}
-use Rattle.kb_commands.specs.declared.command.Command.{Command}
-use Rattle.kb_commands.specs.declared.command.Command.TheVariants as kinds
+use Rattle.kb_codec.specs.Members.{name_bytes, period_bytes, optional_bytes, day_bytes, four_bytes}
+use Rattle.kb_codec.specs.declared.command.Command.{Command}
+use Rattle.kb_codec.specs.declared.command.Command.TheVariants as kinds
 use Rattle.kb_book.specs.declared.answer.Answer.{Answer}
 use Rattle.kb_book.specs.declared.refusal.Refusal.{Refusal}
 use Rattle.kb_book.specs.declared.refusal.Refusal.TheVariants.{KeyReused}

@@ -1,7 +1,6 @@
 -- What a command makes of an account: its refusal, or its answer and the new book.
 use Rattle.std.specs.Prelude.{ℕ, ◌+◌, Bool, false, nat_le, List, [], ◌∷◌, ◌++◌, length, bytes_eq, Option}
-use Rattle.std.specs.Prelude.{Some, None}
-use Rattle.std.specs.Prelude.{Result, Ok, Err, pos, neg_ℤ, if◌then◌else◌}
+use Rattle.std.specs.Prelude.{Some, None, Result, Ok, Err, pos, neg_ℤ, if◌then◌else◌}
 use Rattle.std.specs.FinMap.{find, put}
 use Rattle.kb_sharing.specs.Keys.{by_words}
 use Rattle.kb_days.specs.Calendar.{first_day, charged_days}
@@ -13,15 +12,15 @@ use Rattle.kb_credit.specs.Items.{amount_of}
 use Rattle.kb_credit.specs.InvoiceRows.{InvoicesValue, credit, unpaid}
 use Rattle.kb_credit.specs.InvoiceEdits.{issued, levelled}
 use Rattle.kb_payment.specs.PaymentSums.{PaymentsValue, paid_on}
-use Rattle.kb_commands.specs.declared.command.Command.{Command}
-use Rattle.kb_commands.specs.declared.command.Command.TheVariants as kinds
-use Rattle.kb_codec.specs.Commands.{spelling}
+use Rattle.kb_codec.specs.declared.command.Command.{Command}
+use Rattle.kb_codec.specs.declared.command.Command.TheVariants as kinds
+use Rattle.kb_codec.specs.CommandBytes.{spelling}
 use Rattle.kb_book.specs.declared.answer.Answer.{Answer}
 use Rattle.kb_book.specs.declared.refusal.Refusal.{Refusal}
 use Rattle.kb_book.specs.declared.refusal.Refusal.TheVariants as refusal
 use Rattle.kb_book.specs.Worlds.{WorldValue}
 use Rattle.kb_book.specs.Books.{BookValue, Kept}
-use Rattle.kb_book.specs.Issues.{Issue, issue_from}
+use Rattle.kb_tree.specs.Issues.{Issue, issue_from}
 use Rattle.kb_book.specs.Dues.{facts_of}
 use Rattle.kb_book.specs.Edits.{begun}
 use Rattle.kb_book.specs.Rows.{Rows, first_refusal, limit}

@@ -4,16 +4,16 @@ use Rattle.kb_timeline.specs.declared.entry.Entry.{Entry}
 use Rattle.kb_timeline.specs.declared.entry.PlanRef.{PlanRef}
 use Rattle.kb_timeline.specs.TimelineEdits.{TimelineValue, bundle_named, subscription_named, created, changed}
 use Rattle.kb_timeline.specs.TimelineEdits.{cancelled, uncancelled}
-use Rattle.kb_commands.specs.declared.command.Create.{Create}
-use Rattle.kb_commands.specs.declared.command.Change.{Change}
-use Rattle.kb_commands.specs.declared.command.Cancel.{Cancel}
-use Rattle.kb_commands.specs.declared.command.Uncancel.{Uncancel}
+use Rattle.kb_codec.specs.declared.command.Create.{Create}
+use Rattle.kb_codec.specs.declared.command.Change.{Change}
+use Rattle.kb_codec.specs.declared.command.Cancel.{Cancel}
+use Rattle.kb_codec.specs.declared.command.Uncancel.{Uncancel}
 use Rattle.kb_due.specs.Facts.{FactsValue}
-use Rattle.kb_terms.specs.declared.wish.Wish.{Wish}
-use Rattle.kb_terms.specs.Wishes.{asked_day, plan_asked, category_on}
-use Rattle.kb_terms.specs.Effects.{change_effect, cancel_effect}
-use Rattle.kb_terms.specs.Anchors.{create_anchor, change_anchor}
-use Rattle.kb_terms.specs.BundleRules.{is_addon}
+use Rattle.kb_book.specs.declared.wish.Wish.{Wish}
+use Rattle.kb_book.specs.Wishes.{asked_day, plan_asked, category_on}
+use Rattle.kb_book.specs.Effects.{change_effect, cancel_effect}
+use Rattle.kb_book.specs.Anchors.{create_anchor, change_anchor}
+use Rattle.kb_book.specs.BundleRules.{is_addon}
 
 -- a plan as a start asks for it, and as a change does
 abbrev pub wish_of : Create → Wish

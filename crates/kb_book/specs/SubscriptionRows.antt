@@ -1,7 +1,6 @@
 -- The refusals of a start, of a change, of a cancellation and of its end, in their order.
 use Rattle.std.specs.Prelude.{ℕ, Bool, true, false, not, nat_lt, nat_le, List, [], ◌∷◌, length, Option, Some}
-use Rattle.std.specs.Prelude.{None}
-use Rattle.std.specs.Prelude.{is_some, unwrap_or}
+use Rattle.std.specs.Prelude.{None, is_some, unwrap_or}
 use Rattle.kb_days.specs.Calendar.{last_day}
 use Rattle.kb_timeline.specs.declared.entry.Entry.{Entry}
 use Rattle.kb_timeline.specs.declared.entry.PlanRef.{PlanRef}
@@ -11,14 +10,14 @@ use Rattle.kb_timeline.specs.TimelineEdits.{max_subscriptions, bundle_named, sub
 use Rattle.kb_blocking.specs.declared.state.Flag.TheVariants.{Change as OfChanges}
 use Rattle.kb_blocking.specs.declared.state.Chain.{Chain}
 use Rattle.kb_blocking.specs.Blocking.{is_on}
-use Rattle.kb_commands.specs.declared.command.Create.{Create}
-use Rattle.kb_commands.specs.declared.command.Change.{Change}
-use Rattle.kb_commands.specs.declared.command.Cancel.{Cancel}
+use Rattle.kb_codec.specs.declared.command.Create.{Create}
+use Rattle.kb_codec.specs.declared.command.Change.{Change}
+use Rattle.kb_codec.specs.declared.command.Cancel.{Cancel}
 use Rattle.kb_due.specs.Facts.{FactsValue, subscription_at, chain_of}
-use Rattle.kb_terms.specs.Wishes.{asked_day, version_of, plan_asked}
-use Rattle.kb_terms.specs.Prices.{refers_to_lacking}
-use Rattle.kb_terms.specs.Effects.{change_effect, cancel_effect}
-use Rattle.kb_terms.specs.BundleRules.{may_join, breaks_bundle, is_over}
+use Rattle.kb_book.specs.Wishes.{asked_day, version_of, plan_asked}
+use Rattle.kb_book.specs.Prices.{refers_to_lacking}
+use Rattle.kb_book.specs.Effects.{change_effect, cancel_effect}
+use Rattle.kb_book.specs.BundleRules.{may_join, breaks_bundle, is_over}
 use Rattle.kb_book.specs.declared.refusal.Refusal.TheVariants as refusal
 use Rattle.kb_book.specs.Rows.{Rows, limit}
 use Rattle.kb_book.specs.SubscriptionEdits.{wish_of, new_wish_of, change_entry}

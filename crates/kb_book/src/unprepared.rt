@@ -1,7 +1,7 @@
 //! Why a command isn't prepared.
 ghost use Rattle.std.specs.Prelude.{◌≡◌};
 
-use crate::Refusal;
+use crate::refusal::Refusal;
 use kb_base::NoMemory;
 
 /// Why a command isn't prepared. Neither changes anything.

@@ -5,8 +5,8 @@ use Rattle.std.proofs.lemmas.Bool.{cases_lt}
 use Rattle.std.proofs.lemmas.Option.{slice_get-get_or}
 use Rattle.std.proofs.lemmas.List.Elements.{All-push}
 use Rattle.std.proofs.lemmas.List.Quantifiers.{all_pairs_push}
-use Rattle.kb_valid.specs.declared.version.Version.{Version}
-use Rattle.kb_valid.specs.VersionRules.{IsValid}
+use Rattle.kb_catalog.specs.declared.version.Version.{Version}
+use Rattle.kb_catalog.specs.VersionRules.{IsValid}
 use Rattle.kb_catalog.specs.Catalogs.{max_versions, IsCatalog, IsLater}
 
 -- a version that is later than the last one is later than each

@@ -3,9 +3,8 @@ use Rattle.std.proofs.Common.{◌≡◌, ℕ, zero, suc, ◌+◌, ◌<◌, Bool,
 use Rattle.std.proofs.Common.{nat_le, MatchOption, Option, Some, None, refl, subst, arith}
 use Rattle.std.proofs.lemmas.Bool.{leb-true, leb-false}
 use Rattle.std.proofs.lemmas.Option.{none-some}
-use Rattle.kb_valid.specs.declared.version.Version.{Version}
-use Rattle.kb_catalog.specs.Catalogs.{version_at, version_at_from}
-use Rattle.kb_catalog.specs.Catalogs.{IsLatest, NoneBegun}
+use Rattle.kb_catalog.specs.declared.version.Version.{Version}
+use Rattle.kb_catalog.specs.Catalogs.{version_at, version_at_from, IsLatest, NoneBegun}
 
 -- what is found, else what was found before
 abbrev pub or_found : Option ℕ → Option ℕ → Option ℕ

@@ -2,8 +2,8 @@
 use Rattle.std.specs.Prelude.{ℕ, ◌+◌, ◌-◌, ◌≡◌, ◌<◌, ◌≤◌, Bool, true, false, nat_le, List, [], ◌∷◌, length}
 use Rattle.std.specs.Prelude.{slice_get, Option, Some, None, IsSomeAnd, IfSome, All}
 use Rattle.std.specs.List.{AllPairs}
-use Rattle.kb_valid.specs.declared.version.Version.{Version}
-use Rattle.kb_valid.specs.VersionRules.{IsValid}
+use Rattle.kb_catalog.specs.declared.version.Version.{Version}
+use Rattle.kb_catalog.specs.VersionRules.{IsValid}
 
 -- the most versions that a catalog has
 abbrev pub max_versions : ℕ

@@ -1,7 +1,7 @@
 -- Versions of a small catalog, looked up by day.
 use Rattle.std.specs.Prelude.{◌≡◌, [], ◌∷◌, Some, None, refl}
 use Rattle.kb_days.specs.Dates.{january_2020, february_2020}
-use Rattle.kb_valid.specs.SmallVersion.{small}
+use Rattle.kb_catalog.specs.SmallVersion.{small}
 use Rattle.kb_catalog.specs.Catalogs.{version_at}
 
 -- of versions from 2020-01-01 and from 2020-02-08 on, the later one is used from its own day on

@@ -7,9 +7,9 @@ ghost use Rattle.std.specs.Arc.{arc_value};
 ghost use Rattle.kb_catalog.specs.Catalogs.{version_at};
 ghost use Rattle.kb_catalog.specs.Catalogs.{max_versions, IsCatalog, IsEarly, IsLater, IsLatest, NoneBegun};
 
+use crate::valid::Valid;
 use kb_base::{NoMemory, shared};
 use kb_days::Day;
-use kb_valid::Valid;
 use std::alloc::{AllocError, AllocFailed, Global};
 use std::marker::Model;
 use std::sync::Arc;
@@ -37,7 +37,7 @@ impl Drop for Catalog {
 impl Model for Catalog {
     ghost use Rattle.std.specs.Prelude.{List, map};
     ghost use Rattle.std.specs.Arc.{arc_value};
-    ghost use Rattle.kb_valid.specs.declared.version.Version.{Version};
+    ghost use Rattle.kb_catalog.specs.declared.version.Version.{Version};
     ghost use Rattle.kb_catalog.specs.Catalogs.{IsCatalog};
 
     ghost Value = { List Version };

@@ -3,15 +3,15 @@ use Rattle.std.proofs.Common.{◌≡◌, ℕ, ◌<◌, ◌≤◌, Bool, true, fa
 use Rattle.std.proofs.Common.{Result, Ok, Err, refl, arith}
 use Rattle.std.proofs.lemmas.Bool.Decides.{nat_tests}
 use Rattle.toml.specs.Data.{Members}
-use Rattle.kb_valid.specs.declared.rule.CatalogFault.{CatalogFault}
-use Rattle.kb_valid.specs.RuleNumbers.{rule_number}
-use Rattle.kb_valid.specs.VersionRules.{fault_of}
+use Rattle.kb_catalog.specs.declared.rule.CatalogFault.{CatalogFault}
+use Rattle.kb_catalog.specs.RuleNumbers.{rule_number}
+use Rattle.kb_catalog.specs.VersionRules.{fault_of}
 use Rattle.kb_overdue.specs.declared.config.ConfigFault.{ConfigFault}
 use Rattle.kb_overdue.specs.ConfigRules.{fault_of as config_fault_of, rule_number as config_rule_number}
 use Rattle.kb_catalog_text.specs.declared.fault.TextFault.{TextFault}
 use Rattle.kb_catalog_text.specs.declared.fault.TextFault.TheVariants.{NotToml, TooLong, Rule}
-use Rattle.kb_tables.specs.declared.key_fault.KeyFault.TheVariants.{Missing, WrongKind, Unknown, Memory}
-use Rattle.kb_tables.specs.Reads.{Read}
+use Rattle.kb_catalog_text.specs.declared.key_fault.KeyFault.TheVariants.{Missing, WrongKind, Unknown, Memory}
+use Rattle.kb_catalog_text.specs.Reads.{Read}
 use Rattle.kb_catalog_text.specs.Texts.{max_bytes, document_of, judged, text_read, version_judged}
 use Rattle.kb_catalog_text.specs.Texts.{states_judged, catalog_read, overdue_read}
 

@@ -1,2 +1,5 @@
-pub mod TextSteps
 pub mod FaultCauses
+pub mod PriceSteps
+pub mod ReadSteps
+pub mod TextSteps
+pub mod Told

@@ -9,7 +9,7 @@ use Rattle.toml.specs.Parse.{parse_document}
 use Rattle.kb_catalog_text.specs.declared.fault.TextFault.{TextFault}
 use Rattle.kb_catalog_text.specs.declared.fault.TextFault.TheVariants.{NotToml, Missing, WrongKind, Unknown}
 use Rattle.kb_catalog_text.specs.declared.fault.TextFault.TheVariants.{Rule, Memory, TooLong}
-use Rattle.kb_tables.specs.Reads.{Read}
+use Rattle.kb_catalog_text.specs.Reads.{Read}
 use Rattle.kb_catalog_text.specs.Texts.{max_bytes, document_of, judged, text_read, IsFaultOf, IsNoDocument}
 
 -- a text that is TOML has that document

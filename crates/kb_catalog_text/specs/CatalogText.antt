@@ -1,11 +1,11 @@
 -- The text of a catalog: its document, read key by key, and the first fault.
 use Rattle.std.specs.Prelude.{ℕ, List, [], ◌∷◌, codes, Ok}
 use Rattle.toml.specs.Data.{Members}
-use Rattle.kb_valid.specs.declared.version.Version.{Version}
-use Rattle.kb_tables.specs.Reads.{Read, and_then, keys_read, is_among, read_as, required}
-use Rattle.kb_tables.specs.Reads.{read_table, read_array}
-use Rattle.kb_tables.specs.Kinds.{currency_in, day_in, format_in}
-use Rattle.kb_entries.specs.CatalogEntries.{product_in, plan_in, list_in, rules_in}
+use Rattle.kb_catalog.specs.declared.version.Version.{Version}
+use Rattle.kb_catalog_text.specs.Reads.{Read, and_then, keys_read, is_among, read_as, required}
+use Rattle.kb_catalog_text.specs.Reads.{read_table, read_array}
+use Rattle.kb_catalog_text.specs.Kinds.{currency_in, day_in, format_in}
+use Rattle.kb_catalog_text.specs.CatalogEntries.{product_in, plan_in, list_in, rules_in}
 
 -- the whole document
 abbrev pub top_keys : List (List ℕ)

@@ -1,4 +1,11 @@
+pub mod CatalogEntries
 pub mod CatalogText
+pub mod Kinds
 pub mod OverdueText
-pub mod Texts
+pub mod Reads
+pub mod Shops
+pub mod SmallEntries
 pub mod SmallTexts
+pub mod StateEntries
+pub mod Texts
+pub mod Words

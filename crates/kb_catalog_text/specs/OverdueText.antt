@@ -2,9 +2,8 @@
 use Rattle.std.specs.Prelude.{List, [], ◌∷◌, codes}
 use Rattle.toml.specs.Data.{Members}
 use Rattle.kb_overdue.specs.declared.state.OverdueState.{OverdueState}
-use Rattle.kb_tables.specs.Reads.{Read, and_then, keys_read, is_among}
-use Rattle.kb_tables.specs.Reads.{read_or, read_table, read_array}
-use Rattle.kb_entries.specs.StateEntries.{state_in}
+use Rattle.kb_catalog_text.specs.Reads.{Read, and_then, keys_read, is_among, read_or, read_table, read_array}
+use Rattle.kb_catalog_text.specs.StateEntries.{state_in}
 
 -- the states, most severe first
 unfoldable pub states_in : Members → Read (List OverdueState)

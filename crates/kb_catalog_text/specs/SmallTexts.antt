@@ -4,18 +4,18 @@ use Rattle.std.specs.Str.{is_utf8, chars}
 use Rattle.toml.proofs.OnLiterals.{toml_on_literals}
 use Rattle.kb_days.specs.Calendar.{month_of, day_of_month, month_after, month_start, month_length}
 use Rattle.kb_days.specs.DateText.{read_day, named_day, date_text, civil_text}
-use Rattle.kb_valid.specs.SmallVersion.{small}
+use Rattle.kb_catalog.specs.SmallVersion.{small}
 use Rattle.kb_overdue.specs.ConfigRules.{fault_of, is_broken_at}
 use Rattle.kb_catalog_text.specs.declared.fault.TextFault.TheVariants.{NotToml, Unknown}
-use Rattle.kb_tables.specs.Reads.{keys_read, first_failing, required, optional, read_or, read_array}
-use Rattle.kb_tables.specs.Reads.{read_table, read_items}
-use Rattle.kb_tables.specs.Kinds.{name_in, currency_in, day_in, word_in, count_in, amount_in}
-use Rattle.kb_tables.specs.Kinds.{threshold_in, format_in, text_where, number_in}
-use Rattle.kb_entries.specs.CatalogEntries.{product_in, prices_in, amounts_in, phase_in, is_unlimited_in}
-use Rattle.kb_entries.specs.CatalogEntries.{span_in, length_in, plan_in, list_in, condition_in}
-use Rattle.kb_entries.specs.CatalogEntries.{change_case_in, plan_case_in, create_in, rules_in}
+use Rattle.kb_catalog_text.specs.Reads.{keys_read, first_failing, required, optional, read_or, read_array}
+use Rattle.kb_catalog_text.specs.Reads.{read_table, read_items}
+use Rattle.kb_catalog_text.specs.Kinds.{name_in, currency_in, day_in, word_in, count_in, amount_in}
+use Rattle.kb_catalog_text.specs.Kinds.{threshold_in, format_in, text_where, number_in}
+use Rattle.kb_catalog_text.specs.CatalogEntries.{product_in, prices_in, amounts_in, phase_in, is_unlimited_in}
+use Rattle.kb_catalog_text.specs.CatalogEntries.{span_in, length_in, plan_in, list_in, condition_in}
+use Rattle.kb_catalog_text.specs.CatalogEntries.{change_case_in, plan_case_in, create_in, rules_in}
 use Rattle.kb_catalog_text.specs.CatalogText.{version_in}
-use Rattle.kb_entries.specs.StateEntries.{state_in}
+use Rattle.kb_catalog_text.specs.StateEntries.{state_in}
 use Rattle.kb_catalog_text.specs.OverdueText.{states_in}
 use Rattle.kb_catalog_text.specs.Texts.{text_read, document_of, catalog_read, overdue_read}
 

@@ -4,18 +4,18 @@ use Rattle.std.specs.Prelude.{Result, Ok, Err}
 use Rattle.std.specs.Str.{is_utf8}
 use Rattle.toml.specs.Data.{Members}
 use Rattle.toml.specs.Parse.{parse_document}
-use Rattle.kb_valid.specs.declared.version.Version.{Version}
-use Rattle.kb_valid.specs.declared.rule.CatalogFault.{CatalogFault}
-use Rattle.kb_valid.specs.RuleNumbers.{rule_number}
-use Rattle.kb_valid.specs.VersionRules.{fault_of}
+use Rattle.kb_catalog.specs.declared.version.Version.{Version}
+use Rattle.kb_catalog.specs.declared.rule.CatalogFault.{CatalogFault}
+use Rattle.kb_catalog.specs.RuleNumbers.{rule_number}
+use Rattle.kb_catalog.specs.VersionRules.{fault_of}
 use Rattle.kb_overdue.specs.declared.state.OverdueState.{OverdueState}
 use Rattle.kb_overdue.specs.declared.config.ConfigFault.{ConfigFault}
 use Rattle.kb_overdue.specs.ConfigRules.{fault_of as config_fault_of, rule_number as config_rule_number}
 use Rattle.kb_catalog_text.specs.declared.fault.TextFault.{TextFault}
 use Rattle.kb_catalog_text.specs.declared.fault.TextFault.TheVariants as text
-use Rattle.kb_tables.specs.declared.key_fault.KeyFault.{KeyFault}
-use Rattle.kb_tables.specs.declared.key_fault.KeyFault.TheVariants as at
-use Rattle.kb_tables.specs.Reads.{Read}
+use Rattle.kb_catalog_text.specs.declared.key_fault.KeyFault.{KeyFault}
+use Rattle.kb_catalog_text.specs.declared.key_fault.KeyFault.TheVariants as at
+use Rattle.kb_catalog_text.specs.Reads.{Read}
 use Rattle.kb_catalog_text.specs.CatalogText.{version_in}
 use Rattle.kb_catalog_text.specs.OverdueText.{states_in}
 

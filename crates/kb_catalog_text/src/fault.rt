@@ -2,9 +2,9 @@
 ghost use Rattle.std.specs.Prelude.{◌≡◌};
 ghost use Rattle.kb_catalog_text.specs.Texts.{fault_at, fault_number};
 
-use crate::MAX_BYTES;
+use crate::key_fault::KeyFault;
+use crate::reading::MAX_BYTES;
 use kb_base::Seq;
-use kb_tables::KeyFault;
 use thiserror::Error;
 
 /// Why a text is refused: the first fault in the order of its tables and keys. A key is given as its own

@@ -1,12 +1,13 @@
 //! The whole document of an overdue text.
 ghost use Rattle.toml.specs.View.{table_view};
-ghost use Rattle.kb_tables.specs.Reads.{IsRead};
+ghost use Rattle.kb_catalog_text.specs.Reads.{IsRead};
 ghost use Rattle.kb_catalog_text.specs.OverdueText.{states_in};
 
+use crate::entries::entries_or_empty;
+use crate::key_fault::KeyFault;
+use crate::keys::{Among, known_keys};
 use kb_base::Seq;
-use kb_entries::entries_or_empty;
 use kb_overdue::OverdueState;
-use kb_tables::{Among, KeyFault, known_keys};
 use std::alloc::Global;
 use toml::Table;
 

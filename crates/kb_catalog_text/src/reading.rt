@@ -6,12 +6,12 @@ ghost use Rattle.kb_catalog_text.specs.OverdueText.{states_in};
 ghost use Rattle.kb_catalog_text.specs.Texts.{max_bytes, document_of, catalog_read, overdue_read};
 ghost use Rattle.kb_catalog_text.specs.Texts.{version_judged, states_judged, judged, IsFaultOf, IsNoDocument};
 
-use crate::TextFault;
+use crate::fault::TextFault;
 use crate::overdue::read_states;
 use crate::version::read_version;
 use kb_base::Seq;
+use kb_catalog::Valid;
 use kb_overdue::Config;
-use kb_valid::Valid;
 use std::alloc::Global;
 use std::marker::Model;
 use toml::Table;

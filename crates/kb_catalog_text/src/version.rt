@@ -1,11 +1,14 @@
 //! The whole document of a catalog.
 ghost use Rattle.toml.specs.View.{table_view};
-ghost use Rattle.kb_tables.specs.Reads.{IsRead};
+ghost use Rattle.kb_catalog_text.specs.Reads.{IsRead};
 ghost use Rattle.kb_catalog_text.specs.CatalogText.{version_in};
 
-use kb_entries::{entries_at, entry_at};
-use kb_tables::{Among, Format, KeyFault, known_keys, required};
-use kb_valid::Version;
+use crate::entries::{entries_at, entry_at};
+use crate::format::Format;
+use crate::from_value::required;
+use crate::key_fault::KeyFault;
+use crate::keys::{Among, known_keys};
+use kb_catalog::Version;
 use std::alloc::Global;
 use toml::Table;
 

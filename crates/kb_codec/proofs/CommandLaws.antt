@@ -6,13 +6,13 @@ use Rattle.std.specs.Option.{option_and_then}
 use Rattle.std.proofs.lemmas.Bool.{eqb-true}
 use Rattle.std.proofs.lemmas.List.{append-nil, nil_from_length}
 use Rattle.kb_base.specs.declared.fault.NoMemory.{NoMemory}
-use Rattle.kb_commands.specs.declared.command.Command.{Command}
-use Rattle.kb_codec.specs.Commands.{spelling}
-use Rattle.kb_commands.specs.Commands.{IsCommand}
-use Rattle.kb_members.specs.Reading.{byte_in}
+use Rattle.kb_codec.specs.declared.command.Command.{Command}
+use Rattle.kb_codec.specs.CommandBytes.{spelling}
+use Rattle.kb_codec.specs.Commands.{IsCommand}
+use Rattle.kb_codec.specs.Reading.{byte_in}
 use Rattle.kb_codec.specs.Private.Parts.{readers, command_in, whole, ended}
-use Rattle.kb_members.proofs.Readers.{IsBytes, IsBytes-rest, byte_some, chained_some, then_some, some_is}
-use Rattle.kb_members.proofs.Readers.{at_place, guard_passed}
+use Rattle.kb_codec.proofs.Readers.{IsBytes, IsBytes-rest, byte_some, chained_some, then_some, some_is}
+use Rattle.kb_codec.proofs.Readers.{at_place, guard_passed}
 use Rattle.kb_codec.proofs.KindLaws.{IsSound, readers_sound, command_again}
 
 -- what is read was spelled so

@@ -1,24 +1,21 @@
 -- The kinds of commands: how each is spelled by its members, and that these are exact.
-use Rattle.std.proofs.Common.{ℕ, ◌≡◌, List, ◌∷◌, ◌++◌, Some, None, refl, ap, subst}
-use Rattle.std.proofs.Common.{append_assoc}
+use Rattle.std.proofs.Common.{ℕ, ◌≡◌, List, ◌∷◌, ◌++◌, Some, None, refl, ap, subst, append_assoc}
 use Rattle.std.specs.Prelude.{slice_get}
 use Rattle.std.specs.Option.{option_and_then}
-use Rattle.kb_commands.specs.declared.command.Command.{Command}
-use Rattle.kb_commands.specs.declared.command.Command.TheVariants as kinds
-use Rattle.kb_codec.specs.Commands.{spelling}
-use Rattle.kb_commands.specs.Commands.{IsCommand}
-use Rattle.kb_members.specs.Reading.{Reader, into, byte_in}
+use Rattle.kb_codec.specs.declared.command.Command.{Command}
+use Rattle.kb_codec.specs.declared.command.Command.TheVariants as kinds
+use Rattle.kb_codec.specs.CommandBytes.{spelling}
+use Rattle.kb_codec.specs.Commands.{IsCommand}
+use Rattle.kb_codec.specs.Reading.{Reader, into, byte_in}
 use Rattle.kb_codec.specs.Private.Parts as parts
-use Rattle.kb_members.specs.Kinds.{Member, both, optional, name, currency, bcd, day, invoice, amount}
-use Rattle.kb_members.specs.Kinds.{truth, period, scope, status, flags, catalog, overdue}
-use Rattle.kb_codec.specs.Private.Parts.{readers}
-use Rattle.kb_codec.specs.Private.Parts.{command_in}
-use Rattle.kb_members.proofs.Readers.{IsBytes, into_some, into_again, chained_again, Holds}
-use Rattle.kb_members.proofs.MemberLaws.{IsExact, name_exact, currency_exact, bcd_exact, day_exact}
-use Rattle.kb_members.proofs.MemberLaws.{invoice_exact, amount_exact, truth_exact, period_exact}
-use Rattle.kb_members.proofs.MemberLaws.{scope_exact, status_exact, flags_exact}
-use Rattle.kb_members.proofs.MemberLaws.{optional_exact, both_exact}
-use Rattle.kb_members.proofs.TextMemberLaws.{catalog_exact, overdue_exact}
+use Rattle.kb_codec.specs.MemberKinds.{Member, both, optional, name, currency, bcd, day, invoice, amount}
+use Rattle.kb_codec.specs.MemberKinds.{truth, period, scope, status, flags, catalog, overdue}
+use Rattle.kb_codec.specs.Private.Parts.{readers, command_in}
+use Rattle.kb_codec.proofs.Readers.{IsBytes, into_some, into_again, chained_again, Holds}
+use Rattle.kb_codec.proofs.MemberLaws.{IsExact, name_exact, currency_exact, bcd_exact, day_exact}
+use Rattle.kb_codec.proofs.MemberLaws.{invoice_exact, amount_exact, truth_exact, period_exact, scope_exact}
+use Rattle.kb_codec.proofs.MemberLaws.{status_exact, flags_exact, optional_exact, both_exact}
+use Rattle.kb_codec.proofs.TextMemberLaws.{catalog_exact, overdue_exact}
 
 -- the commands of a kind are spelled by their members
 pub record IsKind {A : Type 0} (kind : ℕ) (m : Member A) (of : A → Command) : Type 0 where

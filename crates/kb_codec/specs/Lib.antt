@@ -1,2 +1,10 @@
+pub mod CommandBytes
 pub mod Commands
+pub mod Entries
+pub mod MemberKinds
+pub mod Members
 pub mod Private
+pub mod Reading
+pub mod Senders
+pub mod SmallReadings
+pub mod TextReading

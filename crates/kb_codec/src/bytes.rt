@@ -1,23 +1,22 @@
 //! Commands as bytes, and back.
-ghost use Rattle.std.specs.Prelude.{◌≡◌, ◌≤◌, IfOk, IfSome, Some, None};
+ghost use Rattle.std.specs.Prelude.{◌≡◌, ◌≤◌, IfOk, IfSome, Some, None, slice_get};
 ghost use Rattle.std.specs.Option.{option_and_then};
-ghost use Rattle.std.specs.Prelude.{slice_get};
-ghost use Rattle.kb_codec.specs.Commands.{spelling};
-ghost use Rattle.kb_commands.specs.Commands.{IsCommand};
-ghost use Rattle.kb_commands.specs.declared.command.Command.{Command as AnyCommand};
-ghost use Rattle.kb_members.specs.Reading.{Reads};
+ghost use Rattle.kb_codec.specs.CommandBytes.{spelling};
+ghost use Rattle.kb_codec.specs.Commands.{IsCommand};
+ghost use Rattle.kb_codec.specs.declared.command.Command.{Command as AnyCommand};
+ghost use Rattle.kb_codec.specs.Reading.{Reads};
 ghost use Rattle.kb_codec.specs.Private.Parts.{readers, command_in, ended, whole};
 
+use crate::command::Command;
 use crate::reading::{
     read_auto_pay, read_autopay, read_bill, read_block, read_cancel, read_change, read_charge,
     read_chargeback, read_create, read_credit, read_open_account, read_overdue_state, read_pause,
     read_pay, read_refund, read_resume, read_settle, read_uncancel,
 };
+use crate::rest::Rest;
 use crate::texts::{read_catalog_text, read_overdue_rules};
 use crate::writing::put_command;
 use kb_base::NoMemory;
-use kb_commands::Command;
-use kb_members::Rest;
 use std::alloc::Global;
 
 /// Room for the bytes of any command without a text.

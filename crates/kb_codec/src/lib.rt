@@ -1,12 +1,29 @@
-//! Commands as bytes.
+//! Commands: what may be asked of the platform, and their bytes.
 //!
-//! The rule kept here: each command has one spelling, and no spelling begins another one. Bytes that aren't a
-//! spelling are no command. Layers above keep and send commands by `encode`, and take them in by `decode`.
+//! The rule kept here: a command holds only what may be asked. Its names, days, currencies and texts are of
+//! types that refuse all else, an amount is 1 to 10^12 minor units, and an invoice has a number from 1 on.
+//! Each command has one spelling, member by member, and no spelling begins another one; bytes that aren't a
+//! spelling are no command. Layers above keep and send commands by `encode`, take them in by `decode`, and
+//! speak of the commands that were accepted as a history of entries, each a command with its day.
 #![tactic(auto)]
 
+mod amount;
 mod bytes;
+mod command;
+mod invoice_no;
+mod member;
 mod reading;
+mod rest;
+mod scope;
+mod text_members;
 mod texts;
 mod writing;
 
+pub use amount::{Amount, MAX_AMOUNT};
 pub use bytes::{decode, encode};
+pub use command::{
+    Auto, Autopay, Bill, Block, Cancel, Catalog, Change, Charge, Chargeback, Command, Create,
+    Credit, OpenAccount, Overdue, OverdueRules, Pause, Pay, Refund, Resume, Settle, Uncancel,
+};
+pub use invoice_no::InvoiceNo;
+pub use scope::BlockScope;

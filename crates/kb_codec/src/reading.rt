@@ -1,5 +1,5 @@
 //! The kinds of commands without a text, read from what is left of some bytes.
-ghost use Rattle.kb_members.specs.Reading.{Reads, into};
+ghost use Rattle.kb_codec.specs.Reading.{Reads, into};
 ghost use Rattle.kb_codec.specs.Private.Parts.{open_account, create, change, cancel, uncancel, pause};
 ghost use Rattle.kb_codec.specs.Private.Parts.{resume, block, bill, charge, credit, pay, refund};
 ghost use Rattle.kb_codec.specs.Private.Parts.{chargeback, autopay, auto_pay, settle, overdue_state};
@@ -8,11 +8,11 @@ ghost use Rattle.kb_codec.specs.Private.Parts.{uncancel_of, pause_of, resume_of,
 ghost use Rattle.kb_codec.specs.Private.Parts.{charge_of, credit_of, pay_of, refund_of, chargeback_of};
 ghost use Rattle.kb_codec.specs.Private.Parts.{autopay_of, auto_pay_of, settle_of, overdue_state_of};
 
-use kb_commands::{
+use crate::command::{
     Auto, Autopay, Bill, Block, Cancel, Change, Charge, Chargeback, Command, Create, Credit,
     OpenAccount, Overdue, Pause, Pay, Refund, Resume, Settle, Uncancel,
 };
-use kb_members::Rest;
+use crate::rest::Rest;
 
 pub(crate) fn read_open_account(rest: &mut Rest<'_>) -> Option<Command>
     ensures { Reads (into open_account_of open_account.read) rest.old result rest.new }

@@ -1,12 +1,12 @@
 //! The kinds of commands with a text, read from what is left of some bytes.
 ghost use Rattle.std.specs.Prelude.{IfOk};
-ghost use Rattle.kb_members.specs.Reading.{Reads, into};
+ghost use Rattle.kb_codec.specs.Reading.{Reads, into};
 ghost use Rattle.kb_codec.specs.Private.Parts.{catalog_text, catalog_text_of, overdue_rules};
 ghost use Rattle.kb_codec.specs.Private.Parts.{overdue_rules_of};
 
+use crate::command::{Catalog, Command, OverdueRules};
+use crate::rest::Rest;
 use kb_base::NoMemory;
-use kb_commands::{Catalog, Command, OverdueRules};
-use kb_members::Rest;
 use std::alloc::Global;
 
 pub(crate) fn read_catalog_text(

@@ -1,17 +1,17 @@
 //! The kinds of commands, written at the end of some bytes: the kind, and then its members.
 ghost use Rattle.std.specs.Prelude.{◌≡◌, ◌++◌, OnOk};
-ghost use Rattle.kb_codec.specs.Commands.{spelling};
-ghost use Rattle.kb_commands.specs.declared.command.Command.TheVariants as kinds;
+ghost use Rattle.kb_codec.specs.CommandBytes.{spelling};
+ghost use Rattle.kb_codec.specs.declared.command.Command.TheVariants as kinds;
 
-use kb_base::NoMemory;
-use kb_commands::{
+use crate::command::{
     Auto, Autopay, Bill, Block, Cancel, Catalog, Change, Charge, Chargeback, Command, Create,
     Credit, OpenAccount, Overdue, OverdueRules, Pause, Pay, Refund, Resume, Settle, Uncancel,
 };
-use kb_members::{
+use crate::member::{
     put_amount, put_bcd, put_currency, put_flags, put_invoice, put_name, put_optional_amount,
     put_optional_day, put_period, put_scope, put_status, put_text, put_truth,
 };
+use kb_base::NoMemory;
 
 /// A command of any kind.
 pub(crate) fn put_command(out: &mut Vec<u8>, command: &Command) -> Result<(), NoMemory>
@@ -41,7 +41,7 @@ pub(crate) fn put_command(out: &mut Vec<u8>, command: &Command) -> Result<(), No
     }
 }
 
-#[tactic(auto, using(kb_members::proofs::ShortTexts::catalog_short))]
+#[tactic(auto, using(crate::proofs::ShortTexts::catalog_short))]
 fn put_catalog_text(out: &mut Vec<u8>, members: &Catalog) -> Result<(), NoMemory>
     ensures { OnOk result (out.new.items ≡ out.old.items ++ spelling (kinds.Catalog members.now)) }
 {
@@ -52,7 +52,7 @@ fn put_catalog_text(out: &mut Vec<u8>, members: &Catalog) -> Result<(), NoMemory
     put_text(out, members.text.text())
 }
 
-#[tactic(auto, using(kb_members::proofs::ShortTexts::overdue_short))]
+#[tactic(auto, using(crate::proofs::ShortTexts::overdue_short))]
 fn put_overdue_rules(out: &mut Vec<u8>, members: &OverdueRules) -> Result<(), NoMemory>
     ensures { OnOk result (out.new.items ≡ out.old.items ++ spelling (kinds.OverdueRules members.now)) }
 {

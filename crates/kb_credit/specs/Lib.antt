@@ -1,6 +1,6 @@
-pub mod Sizes
-pub mod Items
-pub mod InvoiceRows
-pub mod Levelling
 pub mod InvoiceEdits
+pub mod InvoiceRows
+pub mod Items
+pub mod Levelling
 pub mod Private
+pub mod Sizes

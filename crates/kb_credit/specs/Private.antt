@@ -1,4 +1,4 @@
-pub mod OpenInvoices
-pub mod Passes
 pub mod AdjustedRows
 pub mod KeptSums
+pub mod OpenInvoices
+pub mod Passes

@@ -5,9 +5,10 @@ ghost use Rattle.kb_credit.specs.Levelling.{adjust};
 ghost use Rattle.kb_credit.specs.Private.Passes.{item_of};
 ghost use Rattle.kb_credit.specs.Private.AdjustedRows.{adjust_at, adjusted};
 
-use crate::{Line, Row};
+use crate::line::Line;
+use crate::row::Row;
 use kb_base::NoMemory;
-use kb_lists::SharedList;
+use kb_sharing::SharedList;
 use std::alloc::Global;
 
 /// What is added to an invoice, by its number.

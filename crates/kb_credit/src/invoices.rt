@@ -13,17 +13,18 @@ ghost use Rattle.kb_credit.specs.InvoiceEdits.{max_sum, no_invoices, issued, pai
 ghost use Rattle.kb_credit.specs.Private.KeptSums.{IsSmall};
 
 use crate::adjustment::{adjusted, with_items};
+use crate::invoice::Invoice;
 use crate::levelling::level_adjustments;
+use crate::line::Line;
 use crate::lines::{issued_row, with_lines};
 use crate::open_invoice::{
     OpenInvoice, due_count, due_sum, earliest_due, next_due, open_invoice, reopened, with_open,
 };
-use crate::row::{balance, paid_row};
+use crate::row::{Row, balance, paid_row};
 use crate::sums::{Sums, levelled, no_sums, with_issued, with_paid};
-use crate::{Invoice, Line, Row};
 use kb_base::{NoMemory, Seq};
 use kb_days::Day;
-use kb_lists::SharedList;
+use kb_sharing::SharedList;
 use std::alloc::Global;
 use std::marker::Model;
 

@@ -5,10 +5,11 @@ ghost use Rattle.kb_credit.specs.Sizes.{size_of};
 ghost use Rattle.kb_credit.specs.Items.{amount_of};
 
 use crate::adjustment::with_item;
-use crate::{Line, Row};
+use crate::line::Line;
+use crate::row::Row;
 use kb_base::NoMemory;
 use kb_days::Day;
-use kb_lists::SharedList;
+use kb_sharing::SharedList;
 use std::alloc::Global;
 
 /// The row of an invoice of a day and some lines.

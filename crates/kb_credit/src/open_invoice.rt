@@ -8,8 +8,7 @@ ghost use Rattle.kb_credit.specs.Private.KeptSums.{IsSmall};
 ghost use Rattle.kb_credit.specs.Private.OpenInvoices.{opening, reopened, is_due, due_sum, due_count};
 ghost use Rattle.kb_credit.specs.Private.OpenInvoices.{due_days, next_due, earlier_of};
 
-use crate::Row;
-use crate::row::balance;
+use crate::row::{Row, balance};
 use kb_base::{NoMemory, Seq};
 use kb_days::Day;
 use std::alloc::Global;

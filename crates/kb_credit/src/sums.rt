@@ -2,7 +2,7 @@
 ghost use Rattle.std.specs.Prelude.{◌≡◌, ◌+◌, ◌^◌, ◌≤◌, ◌+ℤ◌, ◌-ℤ◌, pos, nat_abs};
 ghost use Rattle.std.specs.Int.{int_max};
 
-use crate::Row;
+use crate::row::Row;
 
 /// What all invoices total, what is paid on them, and their credit adjustments.
 #[derive(Clone, Copy)]

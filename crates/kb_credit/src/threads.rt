@@ -1,6 +1,6 @@
 //! Invoices among threads: the check proves here that threads may hand them on, and lend them to each other.
 
-use crate::Invoices;
+use crate::invoices::Invoices;
 
 /// Invoices are among the values that threads may share.
 fn invoices_are_shared(invoices: &Invoices) {

@@ -1,6 +1,6 @@
+pub mod Adding
 pub mod Calendar
 pub mod DateText
+pub mod Dates
 pub mod Names
 pub mod Periods
-pub mod Adding
-pub mod Dates

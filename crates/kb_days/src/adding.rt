@@ -4,7 +4,8 @@ ghost use Rattle.kb_days.specs.Calendar.{last_reach, mark, day_of_month};
 ghost use Rattle.kb_days.specs.Adding.{add_months, add_span, reached};
 
 use crate::calendar::{day_of_month, marked, month_of};
-use crate::{Bcd, Reach, Span};
+use crate::day::{Bcd, Reach};
+use crate::span::Span;
 
 /// The day that comes a span after another; none after an unlimited span or past day 49000.
 ///

@@ -4,7 +4,7 @@ ghost use Rattle.jiff_core.specs.Date.{epoch_day};
 ghost use Rattle.kb_days.specs.Calendar.{mark, month_of, day_of_month};
 ghost use Rattle.kb_days.specs.Calendar.{month_start, month_length};
 
-use crate::{Bcd, Reach};
+use crate::day::{Bcd, Reach};
 use jiff_core::civil::Date;
 
 /// How many days jiff's first date lies before 1970-01-01.

@@ -7,7 +7,7 @@ ghost use Rattle.kb_days.specs.Calendar.{first_day, last_day};
 ghost use Rattle.kb_days.specs.DateText.{civil_text, date_text, digits, read_day};
 
 use crate::calendar::{date_of, year_of};
-use crate::{Day, Reach};
+use crate::day::{Day, Reach};
 use jiff_core::civil::Date;
 use thiserror::Error;
 

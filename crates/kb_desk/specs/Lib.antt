@@ -1,1 +1,4 @@
+pub mod Continuing
 pub mod Lanes
+pub mod Places
+pub mod Stops

@@ -1,1 +1,4 @@
+pub mod Lookups
 pub mod Moments
+pub mod Places
+pub mod Tellings

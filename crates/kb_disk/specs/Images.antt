@@ -1,7 +1,6 @@
 -- What the calls of a disk do to its bytes, and what a crash may leave of them: the images. A write or a cut
 -- that isn't synced yet may be half there, so an image may be shorter than what a read gives, or longer.
-use Rattle.std.specs.Prelude.{ℕ, ◌≡◌, ◌≤◌, ◌<◌, ◌+◌, min, max, List, [], ◌∷◌, ◌++◌, length, take, drop}
-use Rattle.std.specs.Prelude.{refl}
+use Rattle.std.specs.Prelude.{ℕ, ◌≡◌, ◌≤◌, ◌<◌, ◌+◌, min, max, List, [], ◌∷◌, ◌++◌, length, take, drop, refl}
 use Rattle.std.proofs.Common.{lit≤}
 
 -- the bytes after a write at a place, over what is there and past the end

@@ -1,4 +1,7 @@
 pub mod Images
 pub mod Memory
 pub mod Moments
+pub mod Places
 pub mod Private
+pub mod VaultMemory
+pub mod Vaults

@@ -1,7 +1,6 @@
 -- A disk in memory: the record of its calls, and what they made of its bytes and images.
 use Rattle.std.specs.Prelude.{ℕ, ◌≡◌, ◌≤◌, ◌⊎◌, Option, None, Some, Bool, IsTrue, true, false, if◌then◌else◌}
-use Rattle.std.specs.Prelude.{List, [], ◌∷◌, ◌++◌, length, take}
-use Rattle.std.specs.Prelude.{refl}
+use Rattle.std.specs.Prelude.{List, [], ◌∷◌, ◌++◌, length, take, refl}
 use Rattle.std.proofs.Common.{lit≤}
 use Rattle.kb_base.specs.Faults.{next_count}
 use Rattle.kb_ports.specs.Memory.{fails_next}

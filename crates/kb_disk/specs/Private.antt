@@ -1,3 +1,4 @@
 pub mod Calls
 pub mod Replays
 pub mod Steps
+pub mod Untold

@@ -1,11 +1,10 @@
 //! The calls of a disk in memory, noted.
 ghost use Rattle.std.specs.Prelude.{◌≡◌, ◌≤◌, ◌↔◌, ℕ, List, if◌then◌else◌, true, is_err, IsErr, IsTrue, OnOk};
 ghost use Rattle.kb_base.specs.Faults.{next_count, HasCause, Rose};
-ghost use Rattle.kb_disk.specs.Memory.{bytes_after_note, bytes_after, IsImage};
-ghost use Rattle.kb_disk.specs.Memory.{empty_log, after_call, Fails};
+ghost use Rattle.kb_disk.specs.Memory.{bytes_after_note, bytes_after, IsImage, empty_log, after_call, Fails};
 ghost use Rattle.kb_disk.specs.Private.Calls.{Steps, Settles, NotesElapse};
 
-use crate::{DiskCall, DiskNote};
+use crate::note::{DiskCall, DiskNote};
 use kb_base::Failed;
 use kb_ports::Calls;
 use std::alloc::Global;

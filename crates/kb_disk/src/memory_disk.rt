@@ -1,6 +1,5 @@
 //! A disk in memory.
-ghost use Rattle.std.specs.Prelude.{◌≡◌, ◌≤◌, ◌+◌, ◌↔◌, ◌++◌, min, true, length, take, drop};
-ghost use Rattle.std.specs.Prelude.{option_map};
+ghost use Rattle.std.specs.Prelude.{◌≡◌, ◌≤◌, ◌+◌, ◌↔◌, ◌++◌, min, true, length, take, drop, option_map};
 ghost use Rattle.std.specs.Prelude.{is_err, IsErr, IsTrue, IfOk, OnErr, OnOk};
 ghost use Rattle.std.specs.Io.{ReadsAtMost};
 ghost use Rattle.kb_base.specs.Faults.{HasCause};
@@ -10,8 +9,9 @@ ghost use Rattle.kb_disk.specs.Moments.{Elapses};
 ghost use Rattle.kb_disk.specs.Memory as memory;
 ghost use Rattle.kb_disk.specs.Private.Replays.{seen_is_image, counts_now, only_now};
 
+use crate::disk::Disk;
 use crate::log::Log;
-use crate::{Disk, DiskCall, DiskNote};
+use crate::note::{DiskCall, DiskNote};
 use kb_base::{Failed, NoMemory, Seq};
 use std::alloc::{AllocError, Global};
 use std::marker::Model;

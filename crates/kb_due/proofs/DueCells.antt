@@ -6,7 +6,7 @@ use Rattle.std.proofs.lemmas.Bool.{cond_both, lt-leb}
 use Rattle.std.proofs.lemmas.Option.{none-some, option_and_then_some}
 use Rattle.kb_days.specs.Calendar.{last_charged, end_of_days}
 use Rattle.kb_days.specs.declared.period.Period.{Period}
-use Rattle.kb_plans.specs.Plans.{is_no_period, price_in}
+use Rattle.kb_catalog.specs.Plans.{is_no_period, price_in}
 use Rattle.kb_align.specs.PeriodDays.{is_boundary, last_day_on, next_day_after, period_on}
 use Rattle.kb_timeline.specs.declared.subscription.Subscription.{Subscription}
 use Rattle.kb_due.specs.declared.cell.Cell.{Cell}

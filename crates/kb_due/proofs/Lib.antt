@@ -1,3 +1,3 @@
-pub mod KeptDays
 pub mod DueCells
+pub mod KeptDays
 pub mod SameCells

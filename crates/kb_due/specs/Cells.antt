@@ -2,7 +2,7 @@
 use Rattle.std.specs.Prelude.{ℕ, Bool, not, ◌&&◌, nat_le, Option, None, option_map, option_and_then}
 use Rattle.std.specs.Prelude.{if◌then◌else◌}
 use Rattle.kb_days.specs.Calendar.{last_charged}
-use Rattle.kb_plans.specs.Plans.{is_no_period, price_in}
+use Rattle.kb_catalog.specs.Plans.{is_no_period, price_in}
 use Rattle.kb_align.specs.PeriodDays.{period_on}
 use Rattle.kb_timeline.specs.declared.subscription.Subscription.{Subscription}
 use Rattle.kb_blocking.specs.declared.state.Flag.TheVariants.{Billing}

@@ -3,16 +3,16 @@ use Rattle.std.specs.Prelude.{ℕ, List, is_some, find, slice_get, Option, Some,
 use Rattle.std.specs.Prelude.{option_and_then}
 use Rattle.std.specs.List.{zip}
 use Rattle.kb_days.specs.Calendar.{day_of_month}
-use Rattle.kb_plans.specs.declared.plan.Plan.{Plan}
-use Rattle.kb_plans.specs.declared.phase.Phase.{Phase}
-use Rattle.kb_plans.specs.declared.product.Product.{Product}
-use Rattle.kb_plans.specs.declared.rules.PlanCase.{PlanCase}
-use Rattle.kb_plans.specs.declared.words.BillingAlign.{BillingAlign}
-use Rattle.kb_plans.specs.declared.words.BillingAlign.TheVariants.{Account, Bundle, Subscription as Own}
-use Rattle.kb_plans.specs.declared.ask.PlanAsk.{PlanAsk}
-use Rattle.kb_plans.specs.Cases.{first_match, fits_plan}
-use Rattle.kb_valid.specs.Products.{product_named}
-use Rattle.kb_plans.specs.Plans.{plan_period, price_in}
+use Rattle.kb_catalog.specs.declared.plan.Plan.{Plan}
+use Rattle.kb_catalog.specs.declared.phase.Phase.{Phase}
+use Rattle.kb_catalog.specs.declared.product.Product.{Product}
+use Rattle.kb_catalog.specs.declared.rules.PlanCase.{PlanCase}
+use Rattle.kb_catalog.specs.declared.words.BillingAlign.{BillingAlign}
+use Rattle.kb_catalog.specs.declared.words.BillingAlign.TheVariants.{Account, Bundle, Subscription as Own}
+use Rattle.kb_catalog.specs.declared.ask.PlanAsk.{PlanAsk}
+use Rattle.kb_catalog.specs.Cases.{first_match, fits_plan}
+use Rattle.kb_catalog.specs.VersionProducts.{product_named}
+use Rattle.kb_catalog.specs.Plans.{plan_period, price_in}
 use Rattle.kb_align.specs.Phases.{phase_starts}
 use Rattle.kb_timeline.specs.declared.entry.Entry.{Entry}
 use Rattle.kb_timeline.specs.declared.subscription.Subscription.{Subscription}

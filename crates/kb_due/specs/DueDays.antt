@@ -2,7 +2,7 @@
 use Rattle.std.specs.Prelude.{ℕ, zero, suc, ◌+◌, Bool, ◌&&◌, ◌||◌, nat_eq, nat_le, Option, Some, None}
 use Rattle.std.specs.Prelude.{is_some, option_map, option_and_then, if◌then◌else◌}
 use Rattle.kb_days.specs.Calendar.{last_charged}
-use Rattle.kb_plans.specs.Plans.{price_in}
+use Rattle.kb_catalog.specs.Plans.{price_in}
 use Rattle.kb_align.specs.PeriodDays.{last_day_on}
 use Rattle.kb_timeline.specs.declared.subscription.Subscription.{Subscription}
 use Rattle.kb_blocking.specs.declared.state.Flag.TheVariants.{Billing}

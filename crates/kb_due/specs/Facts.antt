@@ -1,6 +1,6 @@
 -- What billing looks at.
 use Rattle.std.specs.Prelude.{ℕ, List, Option, Some, slice_get}
-use Rattle.kb_valid.specs.declared.version.Version.{Version}
+use Rattle.kb_catalog.specs.declared.version.Version.{Version}
 use Rattle.kb_timeline.specs.declared.subscription.Subscription.{Subscription}
 use Rattle.kb_timeline.specs.TimelineEdits.{TimelineValue}
 use Rattle.kb_blocking.specs.declared.state.BlockState.{BlockState}

@@ -2,10 +2,10 @@
 use Rattle.std.specs.Prelude.{ℕ, ◌≤◌, List, map, slice_get, Option, Some, None, option_map, option_and_then}
 use Rattle.kb_days.specs.Calendar.{first_day}
 use Rattle.kb_days.specs.declared.span.Span.{Span}
-use Rattle.kb_valid.specs.declared.version.Version.{Version}
-use Rattle.kb_plans.specs.declared.plan.Plan.{Plan}
-use Rattle.kb_plans.specs.declared.phase.Phase.{Phase}
-use Rattle.kb_plans.specs.declared.price_list.PriceList.{PriceList}
+use Rattle.kb_catalog.specs.declared.version.Version.{Version}
+use Rattle.kb_catalog.specs.declared.plan.Plan.{Plan}
+use Rattle.kb_catalog.specs.declared.phase.Phase.{Phase}
+use Rattle.kb_catalog.specs.declared.price_list.PriceList.{PriceList}
 use Rattle.kb_align.specs.declared.phases.PhaseAt.{PhaseAt}
 use Rattle.kb_align.specs.Phases.{phase_on}
 use Rattle.kb_timeline.specs.declared.entry.Entry.{Entry}

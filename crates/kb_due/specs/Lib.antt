@@ -1,10 +1,10 @@
+pub mod CellStretches
+pub mod Cells
+pub mod CycleDays
+pub mod DueDays
+pub mod Entitlements
 pub mod Facts
 pub mod Governing
 pub mod Life
-pub mod CycleDays
-pub mod Cells
 pub mod Rates
-pub mod CellStretches
-pub mod DueDays
-pub mod Entitlements
 pub mod SmallFacts

@@ -2,10 +2,10 @@
 use Rattle.std.specs.Prelude.{ℕ, ◌+◌, ◌-◌, Bool, false, not, ◌&&◌, ◌||◌, nat_le, List, [], ◌∷◌, Option, Some}
 use Rattle.std.specs.Prelude.{None, option_and_then}
 use Rattle.std.specs.List.{list_all, range_with_len}
-use Rattle.kb_valid.specs.declared.version.Version.{Version}
-use Rattle.kb_plans.specs.declared.product.Product.{Product}
-use Rattle.kb_plans.specs.Products.{has_name}
-use Rattle.kb_valid.specs.Products.{product_named}
+use Rattle.kb_catalog.specs.declared.version.Version.{Version}
+use Rattle.kb_catalog.specs.declared.product.Product.{Product}
+use Rattle.kb_catalog.specs.Products.{has_name}
+use Rattle.kb_catalog.specs.VersionProducts.{product_named}
 use Rattle.kb_timeline.specs.declared.entry.Entry.{Entry}
 use Rattle.kb_timeline.specs.declared.subscription.Subscription.{Subscription}
 use Rattle.kb_timeline.specs.EntryDays.{entry_on}

@@ -5,13 +5,13 @@ use Rattle.kb_days.specs.Calendar.{day_of_month}
 use Rattle.kb_days.specs.Dates.{february, march, april}
 use Rattle.kb_days.specs.declared.span.Span.TheVariants.{Days, Unlimited}
 use Rattle.kb_days.specs.declared.period.Period.TheVariants.{Monthly, NoBillingPeriod}
-use Rattle.kb_valid.specs.declared.version.Version.{Version}
-use Rattle.kb_plans.specs.declared.product.Product.{Product}
-use Rattle.kb_plans.specs.declared.plan.Plan.{Plan}
-use Rattle.kb_plans.specs.declared.phase.Phase.{Phase}
-use Rattle.kb_plans.specs.declared.words.Category.TheVariants.{Base, AddOn}
-use Rattle.kb_plans.specs.declared.words.PhaseType.TheVariants.{Trial, Evergreen}
-use Rattle.kb_valid.specs.SmallVersion.{small}
+use Rattle.kb_catalog.specs.declared.version.Version.{Version}
+use Rattle.kb_catalog.specs.declared.product.Product.{Product}
+use Rattle.kb_catalog.specs.declared.plan.Plan.{Plan}
+use Rattle.kb_catalog.specs.declared.phase.Phase.{Phase}
+use Rattle.kb_catalog.specs.declared.words.Category.TheVariants.{Base, AddOn}
+use Rattle.kb_catalog.specs.declared.words.PhaseType.TheVariants.{Trial, Evergreen}
+use Rattle.kb_catalog.specs.SmallVersion.{small}
 use Rattle.kb_align.specs.Phases.{phase_on, phase_starts}
 use Rattle.kb_align.specs.PeriodDays.{period_on, last_day_on, next_day_after, is_boundary, first_month}
 use Rattle.kb_timeline.specs.declared.entry.Entry.{Entry}

@@ -6,11 +6,12 @@ ghost use Rattle.kb_due.specs.CycleDays.{cycle_day};
 ghost use Rattle.kb_align.specs.PeriodDays.{max_period_days};
 ghost use Rattle.kb_due.specs.Cells.{is_unbilled, cell_by, cell_on};
 
+use crate::cell::Cell;
 use crate::chain::chain_of;
+use crate::facts::Facts;
 use crate::governing::{Governing, governing_on};
 use crate::life::is_live;
 use crate::rate::rate_by;
-use crate::{Cell, Facts};
 use kb_blocking::Flag;
 use kb_days::{LAST_CHARGED, Reach};
 use kb_timeline::Subscription;

@@ -1,22 +1,21 @@
 //! The cycle day by which a day is billed.
 ghost use Rattle.std.specs.Prelude.{◌≡◌, is_some, Some, unwrap_or, option_map};
 ghost use Rattle.std.specs.Prelude.{option_and_then};
-ghost use Rattle.kb_plans.specs.declared.phase.Phase.{Phase};
-ghost use Rattle.kb_plans.specs.declared.product.Product.{Product};
-ghost use Rattle.kb_valid.specs.Products.{product_named};
+ghost use Rattle.kb_catalog.specs.declared.phase.Phase.{Phase};
+ghost use Rattle.kb_catalog.specs.declared.product.Product.{Product};
+ghost use Rattle.kb_catalog.specs.VersionProducts.{product_named};
 ghost use Rattle.kb_days.specs.Calendar.{day_of_month};
 ghost use Rattle.kb_due.specs.Governing.{choice_of};
 ghost use Rattle.kb_due.specs.CycleDays.{ask_of, billing_align, first_billed_start, own_cycle_day, cycle_day};
 
-use crate::Facts;
+use crate::facts::Facts;
 use crate::governing::{Choice, Governing, choice_of};
 use crate::life::lead_of;
 use kb_align::next_start;
+use kb_catalog::{BillingAlign, Category, Phase, Plan, PlanAsk, Version};
 use kb_days::{Bcd, Day, Name, Reach, day_of_month};
 use kb_money::Currency;
-use kb_plans::{BillingAlign, Category, Phase, Plan, PlanAsk};
 use kb_timeline::{Entry, Subscription};
-use kb_valid::Version;
 
 /// The cycle day by which a day of a subscription is billed: the account's, its lead's or its own.
 pub(crate) fn cycle_day(facts: &Facts, subscription: &Subscription, governing: &Governing) -> Bcd

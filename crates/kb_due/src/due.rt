@@ -5,10 +5,11 @@ ghost use Rattle.kb_blocking.specs.Blocking.{turns};
 ghost use Rattle.kb_align.specs.PeriodDays.{max_period_days};
 ghost use Rattle.kb_due.specs.DueDays.{is_event, event_by, due_by, due_of, due_on};
 
+use crate::cell::Cell;
 use crate::cell_day::cell_on;
 use crate::chain::chain_of;
+use crate::facts::Facts;
 use crate::governing::{Governing, governing_on};
-use crate::{Cell, Facts};
 use kb_blocking::{Blocks, Chain, Flag};
 use kb_days::{Day, Reach};
 use kb_timeline::Subscription;

@@ -2,8 +2,8 @@
 ghost use Rattle.std.specs.Prelude.{◌≡◌, ◌<◌, length, Some};
 ghost use Rattle.kb_due.specs.Entitlements.{state_of, state_on};
 
-use crate::Facts;
 use crate::chain::chain_of;
+use crate::facts::Facts;
 use crate::life::{has_started, is_live};
 use kb_blocking::Flag;
 use kb_days::Reach;

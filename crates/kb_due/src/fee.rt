@@ -3,9 +3,10 @@ ghost use Rattle.std.specs.Prelude.{None, ◌≡◌, ◌<◌, ◌≤◌, ◌+◌
 ghost use Rattle.kb_days.specs.Calendar.{last_charged, end_of_days};
 ghost use Rattle.kb_due.specs.DueDays.{fee_by, fee_of, fee_on};
 
+use crate::cell::Cell;
+use crate::facts::Facts;
 use crate::governing::{Governing, governing_on};
 use crate::life::is_live;
-use crate::{Cell, Facts};
 use kb_days::{Day, LAST_CHARGED, Reach};
 use kb_timeline::Subscription;
 

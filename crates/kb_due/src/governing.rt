@@ -1,17 +1,15 @@
 //! What governs a day of a subscription.
 ghost use Rattle.std.specs.Prelude.{◌≡◌, ◌<◌, ◌≤◌, ◌^◌, length, map, IfSome};
 ghost use Rattle.kb_days.specs.Calendar.{first_day};
-ghost use Rattle.kb_plans.specs.declared.phase.Phase.{Phase};
+ghost use Rattle.kb_catalog.specs.declared.phase.Phase.{Phase};
 ghost use Rattle.kb_align.specs.Phases.{phase_on};
 ghost use Rattle.kb_due.specs.Governing.{choice_of, choice_in, governing_phase, governing_choice};
 ghost use Rattle.kb_due.specs.Governing.{governing_by, governing_on, IsBegun};
 
 use kb_align::{PhaseAt, begun_phase, next_start};
-use kb_catalog::Catalog;
+use kb_catalog::{Catalog, Phase, Plan, PriceList, Valid};
 use kb_days::{Day, Reach};
-use kb_plans::{Phase, Plan, PriceList};
 use kb_timeline::{Entries, Entry, PlanRef};
-use kb_valid::Valid;
 use std::marker::Model;
 
 /// A plan that an entry refers to, with its version and the list by which it was chosen.

@@ -18,7 +18,6 @@ mod life;
 mod rate;
 
 pub use cell::{Cell, Piece};
-pub use cell_day::cell_by;
 pub use chain::chain_of;
 pub use cycle_day::ask_of;
 pub use due::due_on;
@@ -27,4 +26,4 @@ pub use facts::Facts;
 pub use fee::{fee_by, fee_on};
 pub use governing::{Choice, Governing, choice_of, governing_on};
 pub use life::{choice_on, is_available, is_kept_on, is_running, lead_of, live};
-pub use rate::{Rate, rate_by};
+pub use rate::rate_by;

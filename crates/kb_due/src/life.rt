@@ -1,12 +1,12 @@
 //! When a subscription is live.
 ghost use Rattle.std.specs.Prelude.{◌≡◌, ◌<◌, ◌+◌, ◌-◌, length, option_copied};
 ghost use Rattle.std.specs.List.{list_all, range_with_len};
-ghost use Rattle.kb_plans.specs.Products.{has_name};
+ghost use Rattle.kb_catalog.specs.Products.{has_name};
 ghost use Rattle.kb_due.specs.Life.{has_started, is_cancelled, is_running, choice_on, available_with};
 ghost use Rattle.kb_due.specs.Life.{is_offered, is_kept_on, is_kept, is_kept_by, lead_subscription};
 ghost use Rattle.kb_due.specs.Life.{is_live_of, is_live};
 
-use crate::Facts;
+use crate::facts::Facts;
 use crate::governing::{Choice, choice_of};
 use kb_catalog::Catalog;
 use kb_days::{Day, Name, Reach};

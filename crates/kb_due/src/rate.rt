@@ -7,9 +7,10 @@ ghost use Rattle.kb_due.specs.CycleDays.{cycle_day};
 ghost use Rattle.kb_due.specs.Cells.{cell_by};
 ghost use Rattle.kb_due.specs.Rates.{rate_cell, IsRateOf};
 
+use crate::cell::Cell;
 use crate::cycle_day::cycle_day;
+use crate::facts::Facts;
 use crate::governing::Governing;
-use crate::{Cell, Facts};
 use kb_align::period_of;
 use kb_days::{Bcd, Period, Reach};
 use kb_money::Minor;

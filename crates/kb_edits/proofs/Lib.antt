@@ -1,4 +1,4 @@
-pub mod FoundSubscriptions
-pub mod UnpaidNumbers
 pub mod Balances
 pub mod DueInvoices
+pub mod FoundSubscriptions
+pub mod UnpaidNumbers

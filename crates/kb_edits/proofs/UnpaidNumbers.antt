@@ -1,7 +1,6 @@
 -- The numbers of the unpaid invoices, looked through from the lowest one on.
 use Rattle.std.proofs.Common.{◌≡◌, ℕ, suc, ◌+◌, ◌-◌, ◌<◌, ◌≤◌, Bool, true, false, if◌then◌else◌, nat_lt, List}
-use Rattle.std.proofs.Common.{[], ◌∷◌}
-use Rattle.std.proofs.Common.{Some, None, refl, ap, subst, slice_get, arith}
+use Rattle.std.proofs.Common.{[], ◌∷◌, Some, None, refl, ap, subst, slice_get, arith}
 use Rattle.std.specs.List.{find, filter}
 use Rattle.std.proofs.lemmas.Bool.{lt-ltb, le-ltb, ltb-true, ltb-false}
 use Rattle.std.proofs.lemmas.Option.{none-some}

@@ -1,16 +1,16 @@
 //! A block.
 ghost use Rattle.std.specs.Prelude.{◌≡◌, Some, None, is_some, OnOk, IfOk, IfErr, IfSome};
-ghost use Rattle.kb_terms.specs.Wishes.{asked_day};
+ghost use Rattle.kb_book.specs.Wishes.{asked_day};
 ghost use Rattle.kb_book.specs.Rows.{first_refusal, IsUnprepared};
 ghost use Rattle.kb_book.specs.BlockRows.{has_target, block_rows};
 ghost use Rattle.kb_book.specs.BlockEdits as told;
 
-use crate::{is_reserved, with_state};
+use crate::states::with_state;
+use crate::words::is_reserved;
 use kb_blocking::{BlockState, Blocks, Scope};
-use kb_book::{Refusal, Unprepared};
-use kb_commands::{Block, BlockScope};
+use kb_book::{Refusal, Unprepared, asked_day};
+use kb_codec::{Block, BlockScope};
 use kb_days::{Day, Name};
-use kb_terms::asked_day;
 use kb_timeline::Timeline;
 use std::alloc::Global;
 

@@ -4,12 +4,14 @@ ghost use Rattle.kb_book.specs.Rows.{first_refusal, IsUnprepared};
 ghost use Rattle.kb_book.specs.SubscriptionEdits as told;
 ghost use Rattle.kb_book.specs.SubscriptionRows.{of_named, cancel_rows_of, cancel_rows_by, uncancel_rows_of};
 
-use crate::{named_effect, place_of};
-use kb_book::{Refusal, Unprepared};
-use kb_commands::{Cancel, Uncancel};
+use crate::bundle::is_over;
+use crate::changes::named_effect;
+use crate::effect::cancel_effect;
+use crate::places::place_of;
+use kb_book::{Refusal, Unprepared, asked_day};
+use kb_codec::{Cancel, Uncancel};
 use kb_days::{Day, LAST_DAY, Reach};
 use kb_due::Facts;
-use kb_terms::{asked_day, cancel_effect, is_over};
 use kb_timeline::Timeline;
 use std::alloc::Global;
 

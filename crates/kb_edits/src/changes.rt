@@ -1,7 +1,6 @@
 //! A change.
 ghost use Rattle.std.specs.Prelude.{◌≡◌, ◌≤◌, ◌<◌, false, not, length, slice_get, Some, None, is_some};
-ghost use Rattle.std.specs.Prelude.{IfSome, OnOk};
-ghost use Rattle.std.specs.Prelude.{IfOk, IfErr};
+ghost use Rattle.std.specs.Prelude.{IfSome, OnOk, IfOk, IfErr};
 ghost use Rattle.kb_days.specs.Calendar.{first_day};
 ghost use Rattle.kb_timeline.specs.EntryDays.{is_before_start};
 ghost use Rattle.kb_book.specs.Rows.{first_refusal, IsUnprepared};
@@ -9,16 +8,18 @@ ghost use Rattle.kb_book.specs.SubscriptionEdits as told;
 ghost use Rattle.kb_book.specs.SubscriptionRows.{of_named, change_rows_of, change_rows_by, entry_rows};
 ghost use Rattle.kb_book.specs.SubscriptionRows.{is_too_late};
 
-use crate::{place_of, some_plan};
+use crate::anchor::change_anchor;
+use crate::bundle::{breaks_bundle, is_over};
+use crate::effect::change_effect;
+use crate::entry::some_plan;
+use crate::places::place_of;
+use crate::plan::plan_asked;
+use crate::price::refers_to_lacking;
 use kb_blocking::Flag;
-use kb_book::{Refusal, Unprepared};
-use kb_commands::Change;
+use kb_book::{Refusal, Unprepared, Wish, asked_day};
+use kb_codec::Change;
 use kb_days::{Day, LAST_DAY, Reach};
 use kb_due::{Facts, chain_of};
-use kb_terms::{
-    Wish, asked_day, breaks_bundle, change_anchor, change_effect, is_over, plan_asked,
-    refers_to_lacking,
-};
 use kb_timeline::{EditFault, Entry, MAX_ENTRIES, Timeline};
 use std::alloc::Global;
 

@@ -1,17 +1,17 @@
 //! A pause, and its end.
 ghost use Rattle.std.specs.Prelude.{◌≡◌, Some, None, OnOk, IfOk, IfErr};
-ghost use Rattle.kb_terms.specs.Wishes.{asked_day};
+ghost use Rattle.kb_book.specs.Wishes.{asked_day};
 ghost use Rattle.kb_timeline.specs.TimelineEdits.{bundle_named};
 ghost use Rattle.kb_book.specs.Rows.{first_refusal, IsUnprepared};
 ghost use Rattle.kb_book.specs.BlockRows.{pause_rows};
 ghost use Rattle.kb_book.specs.BlockEdits as told;
 
-use crate::{own_name, with_state};
+use crate::states::with_state;
+use crate::words::own_name;
 use kb_blocking::{BlockState, Blocks, Flags, Scope};
-use kb_book::{Refusal, Unprepared};
-use kb_commands::{Pause, Resume};
+use kb_book::{Refusal, Unprepared, asked_day};
+use kb_codec::{Pause, Resume};
 use kb_days::{Day, Name};
-use kb_terms::asked_day;
 use kb_timeline::Timeline;
 use std::alloc::Global;
 

@@ -8,9 +8,9 @@ ghost use Rattle.kb_book.specs.Rows.{first_refusal, IsUnprepared};
 ghost use Rattle.kb_book.specs.Inner.{invoice_due};
 ghost use Rattle.kb_book.specs.PaymentRows.{pay_rows, give_back_rows, refusal_of, balance_at};
 
-use crate::is_own_key;
+use crate::words::is_own_key;
 use kb_book::{Refusal, Unprepared};
-use kb_commands::{Amount, Chargeback, InvoiceNo, Pay, Refund};
+use kb_codec::{Amount, Chargeback, InvoiceNo, Pay, Refund};
 use kb_credit::Invoices;
 use kb_days::{Day, Name};
 use kb_payment::{PayFault, Payments};

@@ -7,7 +7,7 @@ ghost use Rattle.kb_book.specs.Rows.{first_refusal, IsUnprepared};
 ghost use Rattle.kb_book.specs.PaymentRows.{settle_rows};
 
 use kb_book::{Refusal, Unprepared};
-use kb_commands::Settle;
+use kb_codec::Settle;
 use kb_payment::{Attempt, Payments};
 use std::alloc::Global;
 

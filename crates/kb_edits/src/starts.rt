@@ -1,23 +1,24 @@
 //! A start.
 ghost use Rattle.std.specs.Prelude.{◌≡◌, None, unwrap_or, OnOk, IfOk, IfErr};
 ghost use Rattle.kb_timeline.specs.TimelineEdits.{bundle_named};
-ghost use Rattle.kb_terms.specs.Wishes.{plan_asked};
-ghost use Rattle.kb_terms.specs.Anchors.{create_anchor};
+ghost use Rattle.kb_book.specs.Wishes.{plan_asked};
+ghost use Rattle.kb_book.specs.Anchors.{create_anchor};
 ghost use Rattle.kb_book.specs.Rows.{first_refusal, IsUnprepared};
 ghost use Rattle.kb_book.specs.SubscriptionEdits as told;
 ghost use Rattle.kb_book.specs.SubscriptionRows.{bundle_chain, create_rows};
 
-use crate::some_plan;
+use crate::anchor::create_anchor;
+use crate::bundle::{is_add_on, may_join};
+use crate::category::category_on;
+use crate::entry::some_plan;
+use crate::plan::{plan_asked, version_on};
+use crate::price::refers_to_lacking;
 use kb_base::NoMemory;
 use kb_blocking::{Chain, Flag};
-use kb_book::{Refusal, Unprepared};
-use kb_commands::Create;
+use kb_book::{Refusal, Unprepared, Wish, asked_day};
+use kb_codec::Create;
 use kb_days::{Day, Name};
 use kb_due::Facts;
-use kb_terms::{
-    Wish, asked_day, category_on, create_anchor, is_add_on, may_join, plan_asked,
-    refers_to_lacking, version_on,
-};
 use kb_timeline::{Entry, MAX_SUBSCRIPTIONS, PlanRef, Timeline};
 use std::alloc::Global;
 

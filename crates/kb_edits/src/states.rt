@@ -4,7 +4,7 @@ ghost use Rattle.kb_book.specs.Rows.{first_refusal, IsUnprepared};
 ghost use Rattle.kb_book.specs.BlockRows.{state_rows};
 ghost use Rattle.kb_book.specs.BlockEdits as told;
 
-use crate::own_name;
+use crate::words::own_name;
 use kb_blocking::{BlockState, Blocks, Flags, MAX_STATES, Scope};
 use kb_book::{Refusal, Unprepared};
 use kb_days::{Day, Name};

@@ -5,7 +5,7 @@ use Rattle.std.specs.List.Sorted.{IsPermutation, IsNonDecreasing}
 use Rattle.std.proofs.lemmas.List.Elements.{Contains-append_left, Contains-push, Contains-push_cases}
 use Rattle.std.proofs.lemmas.List.Sorted.{Contains-permutation, IsPermutation-sym}
 use Rattle.kb_days.specs.Calendar.{end_of_days}
-use Rattle.kb_valid.specs.declared.version.Version.{Version}
+use Rattle.kb_catalog.specs.declared.version.Version.{Version}
 use Rattle.kb_timeline.specs.declared.entry.Entry.{Entry}
 use Rattle.kb_timeline.specs.declared.subscription.Subscription.{Subscription}
 use Rattle.kb_align.specs.Phases.{phase_starts}

@@ -5,7 +5,7 @@ use Rattle.std.specs.List.Sorted.{IsNonDecreasing}
 use Rattle.std.proofs.lemmas.Bool.{cases_lt}
 use Rattle.std.proofs.lemmas.List.{get_or_default}
 use Rattle.kb_days.specs.Calendar.{first_day, last_charged}
-use Rattle.kb_valid.specs.declared.version.Version.{Version}
+use Rattle.kb_catalog.specs.declared.version.Version.{Version}
 use Rattle.kb_timeline.specs.declared.subscription.Subscription.{Subscription}
 use Rattle.kb_due.specs.Life.{is_kept_on}
 use Rattle.kb_events.specs.Private.Cuts.{HasDay, HasEntryDays, HasLead}

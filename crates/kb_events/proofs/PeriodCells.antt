@@ -2,7 +2,7 @@
 use Rattle.std.proofs.Common.{◌≡◌, ℕ, ◌+◌, ◌<◌, ◌≤◌, Bool, true, false, nat_le, Option, Some, None, refl, sym}
 use Rattle.std.proofs.Common.{◌∙◌, arith}
 use Rattle.std.proofs.lemmas.Bool.{lt-leb}
-use Rattle.kb_plans.specs.Plans.{is_no_period, price_in}
+use Rattle.kb_catalog.specs.Plans.{is_no_period, price_in}
 use Rattle.kb_align.specs.Boundaries.{IsPeriodOf}
 use Rattle.kb_align.specs.PeriodDays.{max_period_days, period_on}
 use Rattle.kb_timeline.specs.declared.subscription.Subscription.{Subscription}

@@ -1,6 +1,6 @@
 -- Between two days on which no entry is dated and no phase starts, one entry and one phase govern.
 use Rattle.std.proofs.Common.{◌≡◌, ℕ, ◌≤◌, List, Option, Some, None, IfSome, option_and_then, refl, ap, ◌∙◌}
-use Rattle.kb_valid.specs.declared.version.Version.{Version}
+use Rattle.kb_catalog.specs.declared.version.Version.{Version}
 use Rattle.kb_align.specs.Phases.{phase_starts}
 use Rattle.kb_timeline.specs.declared.entry.Entry.{Entry}
 use Rattle.kb_timeline.specs.EntryDays.{entry_on}

@@ -1,3 +1,3 @@
 pub mod Pieces
-pub mod SmallPieces
 pub mod Private
+pub mod SmallPieces

@@ -2,16 +2,15 @@
 ghost use Rattle.std.specs.Prelude.{◌≡◌, ◌≤◌, map, All, IfOk, IfSome, OnOk, option_copied};
 ghost use Rattle.kb_events.specs.Private.Cuts.{HasDay, HasStarts, HasPhases, HasEntry, HasEntryDays, HasLead};
 ghost use Rattle.kb_events.specs.Private.Cuts.{HasLeadOf, HasChanges, KeepsDays, AreCuts};
-ghost use Rattle.kb_plans.specs.declared.phase.Phase.{Phase};
+ghost use Rattle.kb_catalog.specs.declared.phase.Phase.{Phase};
 ghost use Rattle.kb_days.specs.Calendar.{first_day, end_of_days};
 ghost use Rattle.kb_align.specs.Phases.{phase_starts};
 
 use kb_align::next_start;
 use kb_base::NoMemory;
-use kb_catalog::Catalog;
+use kb_catalog::{Catalog, Phase};
 use kb_days::{Day, END_OF_DAYS, FIRST_DAY, Reach};
 use kb_due::{Facts, choice_of, lead_of};
-use kb_plans::Phase;
 use kb_timeline::{Entry, Subscription};
 use std::alloc::Global;
 

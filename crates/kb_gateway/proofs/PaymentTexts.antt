@@ -1,7 +1,6 @@
 -- Two payments have different texts, so that no two are given one id by their text.
-use Rattle.std.proofs.Common.{◌≡◌, ℕ, true, ◌&&◌, T, List, [], ◌∷◌, ◌++◌, ap, sym, subst, ◌∙◌}
-use Rattle.std.proofs.Common.{refl, get_or, drop, append_assoc}
-use Rattle.std.proofs.Common.{nat_lt, nat_le, length}
+use Rattle.std.proofs.Common.{◌≡◌, ℕ, true, ◌&&◌, T, List, [], ◌∷◌, ◌++◌, ap, sym, subst, ◌∙◌, refl, get_or}
+use Rattle.std.proofs.Common.{drop, append_assoc, nat_lt, nat_le, length}
 use Rattle.std.specs.List.{list_all}
 use Rattle.std.proofs.lemmas.Bool.{and_parts}
 use Rattle.kb_days.specs.Names.{is_name_byte, IsName}

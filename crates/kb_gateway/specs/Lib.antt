@@ -1,3 +1,6 @@
 pub mod Answers
+pub mod Exchanges
 pub mod GatewayIds
+pub mod GatewayLines
 pub mod ListGateways
+pub mod Private

@@ -5,7 +5,8 @@ ghost use Rattle.kb_gateway.specs.declared.order.Asked.{Asked};
 ghost use Rattle.kb_gateway.specs.declared.told.Saying.{Saying};
 ghost use Rattle.kb_gateway.specs.Answers.{Notes, asked_of, said_of_ask, said_of_look_up};
 
-use crate::{Order, Seen, Told};
+use crate::order::Order;
+use crate::told::{Seen, Told};
 use kb_base::Failed;
 
 /// A payment gateway.

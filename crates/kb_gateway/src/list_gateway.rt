@@ -6,7 +6,9 @@ ghost use Rattle.kb_ports.specs.Memory.{fails_next};
 ghost use Rattle.kb_gateway.specs.Answers.{Notes, asked_of, said_of_ask, said_of_look_up};
 ghost use Rattle.kb_gateway.specs.ListGateways.{new_gateway, next_told, next_seen};
 
-use crate::{Asked, Call, Gateway, Heard, Order, Saying, Seen, Told};
+use crate::gateway::Gateway;
+use crate::order::{Asked, Order};
+use crate::told::{Call, Heard, Saying, Seen, Told};
 use kb_base::Failed;
 use kb_ports::Calls;
 use std::alloc::Global;

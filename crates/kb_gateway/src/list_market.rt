@@ -4,7 +4,8 @@ ghost use Rattle.kb_base.specs.Faults.{next_count, HasCause};
 ghost use Rattle.kb_ports.specs.Memory.{fails_next};
 ghost use Rattle.kb_gateway.specs.ListGateways.{new_market};
 
-use crate::{ListGateway, Market};
+use crate::list_gateway::ListGateway;
+use crate::market::Market;
 use kb_base::Failed;
 use kb_ports::Calls;
 use std::collections::VecDeque;

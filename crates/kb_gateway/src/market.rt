@@ -2,7 +2,7 @@
 ghost use Rattle.std.specs.Prelude.{◌≡◌, ◌≤◌, ℕ, List, IfOk, OnOk};
 ghost use Rattle.kb_base.specs.Faults.{HasCause};
 
-use crate::Gateway;
+use crate::gateway::Gateway;
 use kb_base::Failed;
 
 /// Makes the gateway of each lane.

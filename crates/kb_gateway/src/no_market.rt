@@ -3,7 +3,10 @@ ghost use Rattle.std.specs.Prelude.{◌≡◌, ⊤, None, Ok, IfOk, IsOk};
 ghost use Rattle.kb_gateway.specs.declared.told.Told.TheVariants as told;
 ghost use Rattle.kb_gateway.specs.declared.told.Seen.TheVariants as seen;
 
-use crate::{Gateway, Market, Order, Seen, Told};
+use crate::gateway::Gateway;
+use crate::market::Market;
+use crate::order::Order;
+use crate::told::{Seen, Told};
 use kb_base::Failed;
 
 /// A gateway that no order reaches: each is answered as canceled, and none was seen. It never fails.

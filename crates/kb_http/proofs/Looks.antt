@@ -1,7 +1,6 @@
 -- Only as many bytes are looked at as a head may have: what is seen of them holds of all.
 use Rattle.std.proofs.Common.{◌≡◌, ℕ, ◌≤◌, ◌<◌, List, [], ◌++◌, length, take, drop, min, refl, sym, ap, ◌∙◌}
-use Rattle.std.proofs.Common.{subst, inl, inr}
-use Rattle.std.proofs.Common.{append_assoc, take-append-drop, arith, length-take, Option}
+use Rattle.std.proofs.Common.{subst, inl, inr, append_assoc, take-append-drop, arith, length-take, Option}
 use lib.Seq.{drop-append-le}
 use Rattle.std.proofs.lemmas.List.{take_all}
 use Rattle.httparse.specs.Grammar.{RequestHead, ReadsRequest, HasNoRequest, NeverHasRequest, MayBecomeRequest}

@@ -1,8 +1,7 @@
 -- A request that is taken off the front of what was read.
 use Rattle.std.proofs.Common.{◌≡◌, ℕ, ◌<◌, ◌+◌, ◌||◌, List, ◌++◌, length, take, drop, min, sym, ap, ◌∙◌}
-use Rattle.std.proofs.Common.{subst, inr}
-use Rattle.std.proofs.Common.{append_assoc, take-append-drop, arith, length-take, length-drop, Option, None}
-use Rattle.std.proofs.Common.{Some, Ok}
+use Rattle.std.proofs.Common.{subst, inr, append_assoc, take-append-drop, arith, length-take, length-drop}
+use Rattle.std.proofs.Common.{Option, None, Some, Ok}
 use Rattle.std.specs.Prelude.{nat_le}
 use lib.Seq.{drop-append-le}
 use Rattle.std.proofs.Math.Seq.{take-add}

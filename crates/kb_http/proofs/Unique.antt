@@ -1,13 +1,12 @@
 -- The bytes of a stream are the requests of one list alone.
 use Rattle.std.proofs.Common.{◌≡◌, ℕ, List, [], ◌∷◌, ◌++◌, length, take, drop, refl, sym, ap, ◌∙◌, subst}
-use Rattle.std.proofs.Common.{arith}
-use Rattle.std.proofs.Common.{Result, Ok, Err}
+use Rattle.std.proofs.Common.{arith, Result, Ok, Err}
 use Rattle.std.proofs.lemmas.List.{length-append, take_at, drop_at}
 use Rattle.httparse.specs.Grammar.{ReadsRequest}
 use Rattle.httparse.proofs.GrammarLemmas.{ReadsRequest-append, request_unique}
 use Rattle.kb_http.specs.declared.request.HttpRequest.{HttpRequest}
 use Rattle.kb_http.specs.Heads.{framing, closes}
-use Rattle.kb_paths.specs.Routes.{method_of, route_of}
+use Rattle.kb_http.specs.Routes.{method_of, route_of}
 use Rattle.kb_http.specs.Requests.{IsRequest, AreRequests, given_after}
 use Rattle.kb_http.proofs.Complete.{head_some}
 

@@ -1,12 +1,11 @@
 -- What the head of a request asks: how many bytes of body are to be read, and whether the connection closes.
-use Rattle.std.specs.Prelude.{ℕ, Bool, ◌≡◌, ◌==◌, ◌+◌, ◌||◌, ◌&&◌, if◌then◌else◌, nat_le, true, false}
-use Rattle.std.specs.Prelude.{List, [], ◌∷◌}
-use Rattle.std.specs.Prelude.{Result, Ok, Err, map, codes, bytes_eq, refl}
+use Rattle.std.specs.Prelude.{ℕ, Bool, ◌≡◌, ◌==◌, ◌+◌, ◌||◌, ◌&&◌, if◌then◌else◌, nat_le, true, false, List}
+use Rattle.std.specs.Prelude.{[], ◌∷◌, Result, Ok, Err, map, codes, bytes_eq, refl}
 use Rattle.std.specs.List.{list_any}
 use Rattle.httparse.specs.Grammar.{RequestHead}
 use Rattle.httparse.specs.Spans.{name_and_value}
 use Rattle.kb_http.specs.Words.{is_word, words_of}
-use Rattle.kb_paths.specs.Numbers.{is_number, number_of}
+use Rattle.kb_http.specs.Numbers.{is_number, number_of}
 
 -- the most bytes of a head
 abbrev pub max_head : ℕ

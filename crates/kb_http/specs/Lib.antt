@@ -1,6 +1,12 @@
+pub mod Agreements
 pub mod Connections
 pub mod Heads
+pub mod Numbers
+pub mod Places
 pub mod Private
 pub mod Requests
 pub mod Responses
+pub mod Routes
+pub mod Rows
+pub mod Shapes
 pub mod Words

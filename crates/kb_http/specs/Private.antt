@@ -1,2 +1,3 @@
+pub mod DigitsBehind
 pub mod Parts
 pub mod Reading

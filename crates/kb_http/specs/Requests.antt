@@ -6,7 +6,7 @@ use Rattle.httparse.specs.Grammar.{MayBecomeRequest}
 use Rattle.httparse.specs.Spans.{RequestExceeds, RequestOverflows}
 use Rattle.kb_http.specs.declared.request.HttpRequest.{HttpRequest}
 use Rattle.kb_http.specs.Heads.{max_head, max_fields, max_requests, framing, closes}
-use Rattle.kb_paths.specs.Routes.{method_of, route_of}
+use Rattle.kb_http.specs.Routes.{method_of, route_of}
 
 -- Bytes begin with a head that is within the limits.
 pub record BeginsWith (bytes : List ℕ) (head : RequestHead) (rest : List ℕ) : Type 0 where

@@ -1,13 +1,12 @@
 -- The bytes of a response.
-use Rattle.std.specs.Prelude.{ℕ, Bool, ◌≡◌, ◌==◌, true, false, IsTrue}
-use Rattle.std.specs.Prelude.{List, [], ◌∷◌, ◌++◌, Option, Some, None}
+use Rattle.std.specs.Prelude.{ℕ, Bool, ◌≡◌, ◌==◌, true, false, IsTrue, List, [], ◌∷◌, ◌++◌, Option, Some}
+use Rattle.std.specs.Prelude.{None, codes, decimal, length, unwrap_or, refl}
 use Rattle.std.specs.Fmt.{digits}
-use Rattle.std.specs.Prelude.{codes, decimal, length, unwrap_or, refl}
 use Rattle.std.specs.List.{list_any}
 use Rattle.http.specs.StatusCode.{code_digits, reason_phrase}
 use Rattle.httparse.specs.Ascii.{crlf_bytes}
-use Rattle.kb_paths.specs.declared.route.Allow.{Allow}
-use Rattle.kb_paths.specs.declared.route.Allow.TheVariants as allow
+use Rattle.kb_http.specs.declared.route.Allow.{Allow}
+use Rattle.kb_http.specs.declared.route.Allow.TheVariants as allow
 
 -- the statuses of the service
 abbrev pub statuses : List ℕ

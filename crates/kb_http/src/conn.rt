@@ -12,27 +12,26 @@
 //!
 //! 1. The buffer and what is left in the link are the stream behind the requests that were given.
 //! 2. The buffer has at most 86,016 bytes: a head, a body, and one reading more.
-ghost use Rattle.std.specs.Prelude.{◌≡◌, ◌≢◌, ◌≤◌, ◌<◌, ◌+◌, ℕ, List, [], ◌++◌, None, Some};
-ghost use Rattle.std.specs.Prelude.{length};
-ghost use Rattle.std.specs.Prelude.{◌||◌, nat_le, IfSome, IfOk, IfErr, OnOk, OnErr};
+ghost use Rattle.std.specs.Prelude.{◌≡◌, ◌≢◌, ◌≤◌, ◌<◌, ◌+◌, ℕ, List, [], ◌++◌, None, Some, length, ◌||◌};
+ghost use Rattle.std.specs.Prelude.{nat_le, IfSome, IfOk, IfErr, OnOk, OnErr};
 ghost use Rattle.kb_http.specs.Heads.{max_requests};
 ghost use Rattle.std.specs.Io.KnownBytes.{Appends, Consumes, Keeps, prepend_known};
 ghost use Rattle.kb_base.specs.Faults.{HasCause};
 ghost use Rattle.kb_base.specs.Stream.{Writes};
 ghost use Rattle.httparse.specs.Grammar.{RequestHead};
 ghost use Rattle.kb_http.specs.Connections.{new_conn, unread, told_of, ended_by, IfRequest, UnlessRequest};
-ghost use Rattle.kb_http.specs.Connections.{UnlessFault};
-ghost use Rattle.kb_http.specs.Connections.{count_after, IsCaused, Meets, MeetsPart, MeetsEnd};
+ghost use Rattle.kb_http.specs.Connections.{UnlessFault, count_after, IsCaused, Meets, MeetsPart, MeetsEnd};
 ghost use Rattle.kb_http.specs.declared.request.HttpRequest.{HttpRequest};
 ghost use Rattle.kb_http.specs.Requests.{IsRequest, BeginsWith};
 ghost use Rattle.kb_http.specs.Private.Reading.{ReadsAhead, StandsStill, Stops, HasWhole};
 
 use crate::head::Head;
 use crate::reading::{MAX_BODY, MAX_HEAD, PIECE, fill, read_head};
+use crate::request::HttpRequest;
+use crate::stop::{HttpNext, Stop};
 use crate::taking::take_body;
-use crate::{HttpNext, HttpRequest, Stop};
 use kb_base::{Failed, Seq};
-use kb_links::{Link, write_all};
+use kb_ports::{Link, send_bytes};
 use std::alloc::Global;
 use std::marker::Model;
 
@@ -156,7 +155,7 @@ impl<L: Link> Conn<L> {
         ensures input { L.left self.new.link ≡ L.left self.old.link }
         ensures input_calm { L.input_faults self.new.link ≡ L.input_faults self.old.link }
     {
-        write_all(&mut self.link, bytes)
+        send_bytes(&mut self.link, bytes)
     }
 }
 

@@ -2,14 +2,14 @@
 ghost use Rattle.std.specs.Prelude.{◌≡◌, ◌==◌, length, map, All, Ok, Err, Some, None, bytes_eq, codes};
 ghost use Rattle.std.specs.List.{list_any};
 ghost use Rattle.httparse.specs.Spans.{IsWithin, IsHeaderWithin, span_bytes, header_bytes};
-ghost use Rattle.kb_http.specs.Heads.{is_named, told_length, body_length, framing_of};
-ghost use Rattle.kb_http.specs.Heads.{asks_to_close};
+ghost use Rattle.kb_http.specs.Heads.{is_named, told_length, body_length, framing_of, asks_to_close};
 ghost use Rattle.kb_http.specs.Private.Parts.{told_with, told_after, told_by, length_of, Asks, Sees};
 
+use crate::numbers::number;
+use crate::route::{Method, Route};
 use crate::words::{is_word, lists_close};
 use httparse::spans::{EMPTY_HEADER_SPAN, HeaderSpan, RequestSpans, parse_request};
 use httparse::{Error, Status};
-use kb_paths::{Method, Route, number};
 
 /// The most fields of a head.
 const MAX_FIELDS: usize = 64;

@@ -6,9 +6,9 @@ ghost use Rattle.httparse.specs.Grammar.{HasNoRequest, MayBecomeRequest};
 ghost use Rattle.kb_http.specs.Heads.{max_head};
 ghost use Rattle.kb_http.specs.Private.Reading.{ReadsAhead, IsReadFault, StandsStill, Looks, Stops, HasHead};
 
-use crate::Stop;
 use crate::head::{Head, Seen, see_head};
-use kb_links::Link;
+use crate::stop::Stop;
+use kb_ports::Link;
 
 /// The most bytes of a head.
 pub const MAX_HEAD: usize = 16_384;

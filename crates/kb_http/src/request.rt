@@ -1,7 +1,7 @@
 //! A request.
 
+use crate::route::Route;
 use kb_base::Seq;
-use kb_paths::Route;
 
 /// A request: where it goes, its body, and whether the connection closes behind it.
 #[derive(Debug, Drop)]

@@ -1,14 +1,13 @@
 //! The bytes of responses.
-ghost use Rattle.std.specs.Prelude.{◌≡◌, ◌==◌, ◌++◌, is_some, IfOk, OnOk, length};
-ghost use Rattle.std.specs.Prelude.{codes};
+ghost use Rattle.std.specs.Prelude.{◌≡◌, ◌==◌, ◌++◌, is_some, IfOk, OnOk, length, codes};
 ghost use Rattle.http.specs.StatusCode.{code_digits};
 ghost use Rattle.httparse.specs.Ascii.{crlf_bytes};
 ghost use Rattle.kb_http.specs.Responses.{IsStatus, phrase_of, status_line, type_line, length_line};
 ghost use Rattle.kb_http.specs.Responses.{allow_line, close_line, response};
 
+use crate::route::Allow;
 use http::StatusCode;
 use kb_base::NoMemory;
-use kb_paths::Allow;
 use std::alloc::Global;
 
 /// The most bytes that a response has before its body.

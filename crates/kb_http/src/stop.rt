@@ -2,7 +2,7 @@
 ghost use Rattle.std.specs.Prelude.{◌≡◌};
 ghost use Rattle.kb_http.specs.Connections.{told_of};
 
-use crate::HttpRequest;
+use crate::request::HttpRequest;
 
 /// Why a connection gives no more requests.
 #[derive(Clone, Copy, Debug, PartialEq, Eq)]

@@ -4,7 +4,7 @@ ghost use Rattle.std.specs.List.{list_any};
 ghost use Rattle.httparse.specs.Grammar.{skip_ows, trim_ows};
 ghost use Rattle.kb_http.specs.Words.{is_word, words_of};
 
-use kb_paths::first_piece;
+use crate::pieces::first_piece;
 
 /// Whether two words are the same but for the case of ASCII letters.
 pub fn is_word(word: &[u8], other: &[u8]) -> bool

@@ -3,7 +3,9 @@ ghost use Rattle.std.specs.Prelude.{◌≡◌, ◌≤◌, ◌<◌, ℕ, length, 
 ghost use Rattle.kb_journal.specs.Format.{body, StandsFor};
 ghost use Rattle.kb_journal.specs.Reading.{IsNoJournal};
 
-use crate::{Records, find_end, read_header};
+use crate::ending::find_end;
+use crate::header::read_header;
+use crate::records::Records;
 
 /// The number of lanes, the records, and the place of the last gate.
 #[derive(Drop)]

@@ -5,7 +5,8 @@ ghost use Rattle.kb_journal.specs.Format.{framed, IsSized, IsClosed};
 ghost use Rattle.kb_journal.specs.Reading.{IsCutShort};
 ghost use Rattle.kb_journal.specs.Private.Parts.{IsEnd, IsCutBehind};
 
-use crate::{MAX_RECORD, read_size};
+use crate::block::MAX_RECORD;
+use crate::records::read_size;
 
 /// How many records stand before a gate, and its place.
 #[derive(Drop)]

@@ -26,10 +26,12 @@ ghost use Rattle.kb_journal.specs.Keeping.{Holds, IsFull, RefusesToCreate, Refus
 ghost use Rattle.kb_journal.specs.Reading.{IsNoJournal};
 ghost use Rattle.kb_journal.specs.Unwritten.{IsUnwritten};
 
-use crate::{
-    AppendFault, CreateFault, LoadFault, Records, header_block, read_contents, read_synced,
-    write_record, write_through,
-};
+use crate::block::header_block;
+use crate::contents::read_contents;
+use crate::fault::{AppendFault, CreateFault, LoadFault};
+use crate::read::read_synced;
+use crate::records::Records;
+use crate::write::{write_record, write_through};
 use kb_disk::Disk;
 use std::alloc::Global;
 use std::marker::Model;

@@ -16,14 +16,6 @@ mod records;
 mod write;
 
 pub use block::MAX_RECORD;
-use block::{MAX_BLOCK, fill_block, header_block};
-use contents::read_contents;
-use ending::find_end;
 pub use fault::{AppendFault, CreateFault, LoadFault};
-use header::read_header;
 pub use journal::Journal;
-pub use kb_disk::Disk;
-use read::read_synced;
-use records::read_size;
-pub use records::{Records, RecordsLeft};
-use write::{write_record, write_through};
+pub use records::Records;

@@ -6,8 +6,9 @@ ghost use Rattle.kb_journal.specs.declared.fault.LoadFault.TheVariants.{DiskFaul
 ghost use Rattle.kb_journal.specs.Unwritten.{IsUnwritten};
 ghost use Rattle.kb_journal.specs.Private.Parts.{StopsBefore};
 
-use crate::LoadFault;
-use kb_disk::{Disk, Failed};
+use crate::fault::LoadFault;
+use kb_base::Failed;
+use kb_disk::Disk;
 use std::alloc::{AllocError, Global};
 
 /// All the bytes of a disk, which is synced first.

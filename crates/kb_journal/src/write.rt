@@ -6,8 +6,9 @@ ghost use Rattle.kb_disk.specs.Moments.{AtEachMoment};
 ghost use Rattle.kb_journal.specs.Format.{framed, IsSized, IsWithOrWithout};
 ghost use Rattle.kb_journal.specs.Keeping.{Keeps};
 
-use crate::{MAX_BLOCK, fill_block};
-use kb_disk::{Disk, Failed};
+use crate::block::{MAX_BLOCK, fill_block};
+use kb_base::Failed;
+use kb_disk::Disk;
 
 /// Writes bytes at a place and syncs.
 pub fn write_through<D: Disk>(disk: &mut D, at: u64, bytes: &[u8]) -> Result<(), Failed>

@@ -1,8 +1,7 @@
 -- A payment is asked for once: what a new command, and an order that is taken off, do to that.
 use Rattle.std.proofs.Common.{◌≡◌, ℕ, ◌≤◌, ◌<◌, arith, true, false, true≢false, ◌&&◌, bytes_eq, List, [], ◌∷◌}
-use Rattle.std.proofs.Common.{◌++◌}
-use Rattle.std.proofs.Common.{length, get_or, All, IsSome, is_some, Option, Some, None, refl, sym, ap, subst}
-use Rattle.std.proofs.Common.{◌∙◌, inl, inr}
+use Rattle.std.proofs.Common.{◌++◌, length, get_or, All, IsSome, is_some, Option, Some, None, refl, sym, ap}
+use Rattle.std.proofs.Common.{subst, ◌∙◌, inl, inr}
 use Rattle.std.proofs.lemmas.Bool.{cases_Bool, and_parts}
 use Rattle.std.proofs.lemmas.List.{append_assoc, append-nil, get_or_append_left, length-append}
 use Rattle.std.proofs.lemmas.List.Elements.{All-append, All-push, All-head, All-tail, All-weaker, All-nil}
@@ -13,20 +12,21 @@ use Rattle.kb_payment.specs.declared.attempt.Attempt.{Attempt}
 use Rattle.kb_payment.specs.declared.attempt.Status.{Status}
 use Rattle.kb_gateway.specs.declared.order.Asked.{Asked}
 use Rattle.kb_gateway.specs.Answers.{Notes}
-use Rattle.kb_commands.specs.declared.command.Command.{Command}
-use Rattle.kb_commands.specs.declared.command.Command.TheVariants as kinds
+use Rattle.kb_codec.specs.declared.command.Command.{Command}
+use Rattle.kb_codec.specs.declared.command.Command.TheVariants as kinds
 use Rattle.kb_machine.specs.Judged.{is_new}
-use Rattle.kb_machine.specs.Machines.{MachineValue, judged, account_of}
+use Rattle.kb_machine.specs.Machines.{MachineValue, judged}
+use Rattle.kb_codec.specs.Senders.{account_of}
 use Rattle.kb_machine.specs.Histories.{entry_after}
-use Rattle.kb_attempts.specs.Attempts.{begun_key, settles}
-use Rattle.kb_attempts.specs.Keys.{AreKeyed}
-use Rattle.kb_attempts.proofs.StayingAttempts.{attempts_stay}
-use Rattle.kb_attempts.proofs.SettledAttempts.{settlements_settle}
-use Rattle.kb_attempts.proofs.BegunAttempts.{attempts_begin, begun_keys_are_free}
+use Rattle.kb_histories.specs.Attempts.{begun_key, settles}
+use Rattle.kb_histories.specs.PaymentKeys.{AreKeyed}
+use Rattle.kb_histories.proofs.StayingAttempts.{attempts_stay}
+use Rattle.kb_histories.proofs.SettledAttempts.{settlements_settle}
+use Rattle.kb_histories.proofs.BegunAttempts.{attempts_begin, begun_keys_are_free}
 use Rattle.kb_lane.proofs.Pairs.{pairs_append, pairs_head, pairs_back}
-use Rattle.kb_works.specs.declared.work.Work.{Work}
-use Rattle.kb_works.specs.declared.work.Work.TheVariants.{Ask, Check}
-use Rattle.kb_works.specs.Works.{work_of}
+use Rattle.kb_lane.specs.declared.work.Work.{Work}
+use Rattle.kb_lane.specs.declared.work.Work.TheVariants.{Ask, Check}
+use Rattle.kb_lane.specs.Outbox.{work_of}
 use Rattle.kb_lane.specs.Asking.{asked_for, asks_in, attempt_asked, AreApart, HaveAttempts, IsBegun, AsksOnce}
 use Rattle.kb_lane.specs.Asking.{WasAskedOnce, EndsWith}
 

@@ -1,16 +1,15 @@
 -- Commands that settle no payment.
-use Rattle.std.proofs.Common.{◌≡◌, ℕ, Bool, true, false, List, Option, Some, None, if◌then◌else◌}
-use Rattle.std.proofs.Common.{refl}
+use Rattle.std.proofs.Common.{◌≡◌, ℕ, Bool, true, false, List, Option, Some, None, if◌then◌else◌, refl}
 use Rattle.std.proofs.lemmas.Option.{none-some}
-use Rattle.kb_commands.specs.declared.command.Command.{Command}
-use Rattle.kb_commands.specs.declared.command.Command.TheVariants as kinds
+use Rattle.kb_codec.specs.declared.command.Command.{Command}
+use Rattle.kb_codec.specs.declared.command.Command.TheVariants as kinds
 use Rattle.kb_book.specs.Worlds.{WorldValue}
 use Rattle.kb_book.specs.Books.{BookValue}
 use Rattle.kb_book.specs.BlockRows.{has_all_states}
 use Rattle.kb_book.specs.Inner.{is_transition_due, invoice_due}
-use Rattle.kb_laws.specs.NextDues.{transition_of, payment_of, next_due}
-use Rattle.kb_attempts.specs.Attempts.{settles}
-use Rattle.kb_works.specs.declared.work.Work.{Work}
+use Rattle.kb_book.specs.NextDues.{transition_of, payment_of, next_due}
+use Rattle.kb_histories.specs.Attempts.{settles}
+use Rattle.kb_lane.specs.declared.work.Work.{Work}
 use Rattle.kb_lane.specs.Private.Runs.{SettlesNone}
 
 -- what an account asks for by itself settles none

@@ -3,13 +3,13 @@ use Rattle.std.proofs.Common.{◌≡◌, ℕ, ◌⊎◌, ◌&&◌, arith, inl, i
 use Rattle.std.proofs.Common.{List, [], ◌∷◌, Option, None, Some, refl, sym, ap, subst, ◌∙◌}
 use Rattle.std.proofs.lemmas.Bool.{and_parts, cases_Bool}
 use Rattle.std.proofs.lemmas.List.{append-nil}
-use Rattle.kb_commands.specs.declared.command.Command.{Command}
-use Rattle.kb_reply.specs.declared.reply.LaneReply.{LaneReply}
-use Rattle.kb_reply.specs.declared.reply.LaneReply.TheVariants as replies
-use Rattle.kb_reply.specs.declared.step.Step.{Step}
-use Rattle.kb_reply.specs.declared.step.Step.TheVariants as steps
-use Rattle.kb_log.specs.Entries.{Entry}
-use Rattle.kb_log.specs.Logs.{LogValue}
+use Rattle.kb_codec.specs.declared.command.Command.{Command}
+use Rattle.kb_book.specs.declared.reply.LaneReply.{LaneReply}
+use Rattle.kb_book.specs.declared.reply.LaneReply.TheVariants as replies
+use Rattle.kb_book.specs.declared.step.Step.{Step}
+use Rattle.kb_book.specs.declared.step.Step.TheVariants as steps
+use Rattle.kb_codec.specs.Entries.{Entry}
+use Rattle.kb_lane.specs.Logs.{LogValue}
 use Rattle.kb_machine.specs.Judged.{Judged, is_new}
 use Rattle.kb_machine.specs.Machines.{MachineValue, judged}
 use Rattle.kb_lane.specs.Lanes.{LaneValue, StandsThroughout, StandsWithin, StaysItself, machine_of}

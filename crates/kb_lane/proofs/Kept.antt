@@ -8,22 +8,22 @@ use Rattle.kb_days.specs.Calendar.{last_day}
 use Rattle.kb_gateway.specs.declared.order.Asked.{Asked}
 use Rattle.kb_gateway.specs.Answers.{Notes}
 use Rattle.kb_payment.specs.declared.attempt.Status.{Status}
-use Rattle.kb_commands.specs.declared.command.Command.{Command}
-use Rattle.kb_commands.specs.declared.command.Command.TheVariants as kinds
-use Rattle.kb_reply.specs.declared.reply.LaneReply.{LaneReply}
-use Rattle.kb_log.specs.Entries.{History}
-use Rattle.kb_log.specs.Logs.{LogValue}
+use Rattle.kb_codec.specs.declared.command.Command.{Command}
+use Rattle.kb_codec.specs.declared.command.Command.TheVariants as kinds
+use Rattle.kb_book.specs.declared.reply.LaneReply.{LaneReply}
+use Rattle.kb_codec.specs.Entries.{History}
+use Rattle.kb_lane.specs.Logs.{LogValue}
 use Rattle.kb_machine.specs.Judged.{New}
 use Rattle.kb_machine.specs.Machines.{MachineValue, no_machine, judged}
 use Rattle.kb_machine.specs.Histories.{replay, entry_after, AreNewFrom}
 use Rattle.kb_machine.proofs.Replays.{replay_new, fresh_new}
-use Rattle.kb_attempts.proofs.KeyedBooks.{replays_are_keyed}
-use Rattle.kb_works.specs.declared.work.Work.{Work}
-use Rattle.kb_works.specs.Works.{work_of}
-use Rattle.kb_works.specs.declared.work.Work.TheVariants.{Ask, Check}
+use Rattle.kb_histories.proofs.KeyedBooks.{replays_are_keyed}
+use Rattle.kb_lane.specs.declared.work.Work.{Work}
+use Rattle.kb_lane.specs.Outbox.{work_of}
+use Rattle.kb_lane.specs.declared.work.Work.TheVariants.{Ask, Check}
 use Rattle.kb_lane.specs.Asking.{asked_for, asks_in, attempt_asked, IsBegun}
 use Rattle.kb_lane.specs.Lanes.{LaneValue, IsLane, machine_of, opened_of}
-use Rattle.kb_works.specs.Orders.{order_of}
+use Rattle.kb_lane.specs.Orders.{order_of}
 use Rattle.kb_lane.specs.Private.Runs.{SettlesNone}
 use Rattle.kb_lane.proofs.Settling.{order_there}
 use Rattle.kb_lane.proofs.Asking.{asks_grow, asks_append, none_asked, ends_anyhow, asked_once, ends_note}

@@ -12,32 +12,33 @@ use Rattle.kb_gateway.specs.declared.order.Asked.{Asked}
 use Rattle.kb_gateway.specs.declared.told.Saying.{Saying}
 use Rattle.kb_gateway.specs.declared.told.Told.{Told}
 use Rattle.kb_gateway.specs.declared.told.Told.TheVariants as told
-use Rattle.kb_commands.specs.declared.command.Command.{Command}
-use Rattle.kb_commands.specs.declared.command.Command.TheVariants as kinds
+use Rattle.kb_codec.specs.declared.command.Command.{Command}
+use Rattle.kb_codec.specs.declared.command.Command.TheVariants as kinds
 use Rattle.kb_payment.specs.declared.attempt.Status.{Status}
 use Rattle.kb_payment.specs.declared.attempt.Status.TheVariants as status
 use Rattle.kb_book.specs.Books.{BookValue}
-use Rattle.kb_laws.specs.NextDues.{next_due}
-use Rattle.kb_reply.specs.declared.step.Step.{Step}
-use Rattle.kb_reply.specs.declared.step.Step.TheVariants as steps
-use Rattle.kb_machine.specs.Machines.{account_of, book_of}
+use Rattle.kb_book.specs.NextDues.{next_due}
+use Rattle.kb_book.specs.declared.step.Step.{Step}
+use Rattle.kb_book.specs.declared.step.Step.TheVariants as steps
+use Rattle.kb_machine.specs.Machines.{book_of}
+use Rattle.kb_codec.specs.Senders.{account_of}
 use Rattle.kb_machine.specs.Histories.{replay, entry_after}
-use Rattle.kb_attempts.specs.Names.{AreNamed}
-use Rattle.kb_attempts.proofs.DueNews.{due_commands_are_named}
-use Rattle.kb_attempts.proofs.KeyedBooks.{replays_are_keyed}
-use Rattle.kb_attempts.proofs.NamedBooks.{replays_are_named}
-use Rattle.kb_drains.specs.OwnWork.{all_work, work_left}
-use Rattle.kb_drains.proofs.BilledBooks.{replays_are_billed}
-use Rattle.kb_drains.proofs.NamedSums.{fewer_names_have_no_more}
-use Rattle.kb_drains.proofs.SettlementWork.{settlements_add_no_work}
-use Rattle.kb_drains.proofs.TakenWork.{due_commands_take_work}
+use Rattle.kb_histories.specs.Names.{AreNamed}
+use Rattle.kb_histories.proofs.DueNews.{due_commands_are_named}
+use Rattle.kb_histories.proofs.KeyedBooks.{replays_are_keyed}
+use Rattle.kb_histories.proofs.NamedBooks.{replays_are_named}
+use Rattle.kb_histories.specs.OwnWork.{all_work, work_left}
+use Rattle.kb_histories.proofs.BilledBooks.{replays_are_billed}
+use Rattle.kb_histories.proofs.NamedSums.{fewer_names_have_no_more}
+use Rattle.kb_histories.proofs.SettlementWork.{settlements_add_no_work}
+use Rattle.kb_histories.proofs.TakenWork.{due_commands_take_work}
 use Rattle.kb_machine.proofs.Replays.{replay_more}
-use Rattle.kb_works.specs.declared.work.Work.{Work}
-use Rattle.kb_works.specs.declared.work.Work.TheVariants.{Ask, Check}
-use Rattle.kb_works.specs.Works.{work_of}
+use Rattle.kb_lane.specs.declared.work.Work.{Work}
+use Rattle.kb_lane.specs.declared.work.Work.TheVariants.{Ask, Check}
+use Rattle.kb_lane.specs.Outbox.{work_of}
 use Rattle.kb_lane.specs.Lanes.{LaneValue, machine_of}
 use Rattle.kb_lane.specs.Replies.{Takes}
-use Rattle.kb_works.specs.Orders.{settled_by}
+use Rattle.kb_lane.specs.Orders.{settled_by}
 use Rattle.kb_lane.specs.Draining.{due_in, due_of, with_outbox, Looks, Orders, Asks, Accepts}
 use Rattle.kb_lane.specs.LaneWork.{entry_work, account_in, is_named, lane_work}
 

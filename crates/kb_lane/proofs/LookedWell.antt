@@ -1,11 +1,11 @@
 -- What the look-up of a payment does to a log.
 use Rattle.std.proofs.Common.{◌≡◌, ℕ, Bool, true, false, true≢false, Option, None, Some, List, refl, sym, ap}
 use Rattle.std.proofs.Common.{◌∙◌}
-use Rattle.kb_commands.specs.declared.command.Command.{Command}
+use Rattle.kb_codec.specs.declared.command.Command.{Command}
 use Rattle.kb_gateway.specs.declared.order.Asked.{Asked}
 use Rattle.kb_gateway.specs.declared.told.Saying.{Saying}
-use Rattle.kb_reply.specs.declared.step.Step.{Step}
-use Rattle.kb_reply.specs.declared.step.Step.TheVariants as steps
+use Rattle.kb_book.specs.declared.step.Step.{Step}
+use Rattle.kb_book.specs.declared.step.Step.TheVariants as steps
 use Rattle.kb_lane.specs.Lanes.{LaneValue, StandsWithin}
 use Rattle.kb_lane.specs.Draining.{Accepts}
 use Rattle.kb_lane.specs.LookingUp.{Looked, LooksUp}

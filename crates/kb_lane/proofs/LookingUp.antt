@@ -15,25 +15,24 @@ use Rattle.kb_payment.specs.declared.attempt.Status.{Status}
 use Rattle.kb_gateway.specs.declared.order.Asked.{Asked}
 use Rattle.kb_gateway.specs.declared.told.Seen.{Seen}
 use Rattle.kb_gateway.specs.declared.told.Saying.{Saying}
-use Rattle.kb_commands.specs.declared.command.Command.{Command}
-use Rattle.kb_commands.specs.declared.command.Command.TheVariants as kinds
-use Rattle.kb_commands.specs.declared.command.Settle.{Settle}
+use Rattle.kb_codec.specs.declared.command.Command.{Command}
+use Rattle.kb_codec.specs.declared.command.Command.TheVariants as kinds
+use Rattle.kb_codec.specs.declared.command.Settle.{Settle}
 use Rattle.kb_payment.specs.PaymentSums.{open_keys}
 use Rattle.kb_book.specs.Books.{BookValue}
 use Rattle.kb_book.specs.PaymentRows.{same_status}
-use Rattle.kb_reply.specs.declared.step.Step.{Step}
-use Rattle.kb_reply.specs.declared.step.Step.TheVariants as steps
-use Rattle.kb_log.specs.Entries.{Entry}
+use Rattle.kb_book.specs.declared.step.Step.{Step}
+use Rattle.kb_book.specs.declared.step.Step.TheVariants as steps
+use Rattle.kb_codec.specs.Entries.{Entry}
 use Rattle.kb_machine.specs.Judged.{is_new}
 use Rattle.kb_machine.specs.Machines.{MachineValue, judged, book_of}
 use Rattle.kb_machine.specs.Histories.{replay}
-use Rattle.kb_attempts.proofs.SettledAttempts.{settlements_leave_others}
+use Rattle.kb_histories.proofs.SettledAttempts.{settlements_leave_others}
 use Rattle.kb_lane.specs.Asking.{asked_for, asks_in, attempt_asked, AreApart}
 use Rattle.kb_lane.specs.Lanes.{LaneValue, machine_of}
 use Rattle.kb_lane.specs.Replies.{Takes}
 use Rattle.kb_lane.specs.Draining.{Writes, Accepts}
-use Rattle.kb_lane.specs.LookingUp.{open_in, is_ask, news, seen_status, resettled, LooksUp, Looked}
-use Rattle.kb_lane.specs.LookingUp.{EachDone}
+use Rattle.kb_lane.specs.LookingUp.{open_in, is_ask, news, seen_status, resettled, LooksUp, Looked, EachDone}
 use Rattle.kb_lane.proofs.Pairs.{pairs_back, pairs_head}
 use Rattle.kb_lane.proofs.Rest.{next_item}
 use Rattle.kb_machine.proofs.Replays.{replay_more}

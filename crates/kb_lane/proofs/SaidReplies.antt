@@ -1,15 +1,15 @@
 -- The replies to commands that aren't refused.
 use Rattle.std.proofs.Common.{◌≡◌, ℕ, true, true≢false, refl, sym, subst, ◌∙◌, ap}
-use Rattle.kb_commands.specs.declared.command.Command.{Command}
-use Rattle.kb_commands.specs.declared.command.Command.TheVariants as kinds
-use Rattle.kb_reply.specs.declared.reply.LaneReply.{LaneReply}
-use Rattle.kb_reply.specs.declared.reply.LaneReply.TheVariants as replies
+use Rattle.kb_codec.specs.declared.command.Command.{Command}
+use Rattle.kb_codec.specs.declared.command.Command.TheVariants as kinds
+use Rattle.kb_book.specs.declared.reply.LaneReply.{LaneReply}
+use Rattle.kb_book.specs.declared.reply.LaneReply.TheVariants as replies
 use Rattle.kb_machine.specs.declared.change.Change.{Change}
 use Rattle.kb_machine.specs.declared.change.Change.TheVariants as changes
 use Rattle.kb_machine.specs.Judged.{Judged, New, Again, Refused, lifted}
 use Rattle.kb_machine.specs.Texts.{catalog_judged, overdue_judged}
 use Rattle.kb_machine.specs.Machines.{MachineValue, judged, reply_of, with_texts, with_book, by_book, book_of}
-use Rattle.kb_machine.specs.Machines.{account_of}
+use Rattle.kb_codec.specs.Senders.{account_of}
 use Rattle.kb_machine.specs.Plans.{change_reply}
 use Rattle.kb_lane.specs.Replies.{IsReply, is_accepted}
 

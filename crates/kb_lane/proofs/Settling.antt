@@ -9,8 +9,8 @@ use Rattle.kb_gateway.specs.declared.order.Order.{Order}
 use Rattle.kb_gateway.specs.declared.told.Saying.{Saying}
 use Rattle.kb_gateway.specs.declared.told.Told.{Told}
 use Rattle.kb_gateway.specs.declared.told.Told.TheVariants as told
-use Rattle.kb_commands.specs.declared.command.Command.{Command}
-use Rattle.kb_commands.specs.declared.command.Command.TheVariants as kinds
+use Rattle.kb_codec.specs.declared.command.Command.{Command}
+use Rattle.kb_codec.specs.declared.command.Command.TheVariants as kinds
 use Rattle.kb_payment.specs.declared.attempt.Attempt.{Attempt}
 use Rattle.kb_payment.specs.declared.attempt.Status.{Status}
 use Rattle.kb_payment.specs.declared.attempt.Status.TheVariants as status
@@ -18,18 +18,18 @@ use Rattle.kb_payment.specs.PaymentSums.{attempt_of}
 use Rattle.kb_book.specs.Books.{BookValue}
 use Rattle.kb_journal.specs.declared.fault.AppendFault.{AppendFault}
 use Rattle.kb_journal.specs.declared.fault.AppendFault.TheVariants as fault
-use Rattle.kb_reply.specs.declared.step.Step.{Step}
-use Rattle.kb_reply.specs.declared.step.Step.TheVariants as steps
-use Rattle.kb_log.specs.Entries.{Entry, payload}
-use Rattle.kb_log.specs.Logs.{Appends}
+use Rattle.kb_book.specs.declared.step.Step.{Step}
+use Rattle.kb_book.specs.declared.step.Step.TheVariants as steps
+use Rattle.kb_codec.specs.Entries.{Entry, payload}
+use Rattle.kb_lane.specs.Logs.{Appends}
 use Rattle.kb_machine.specs.Machines.{MachineValue, book_of}
-use Rattle.kb_works.specs.declared.work.Work.{Work}
+use Rattle.kb_lane.specs.declared.work.Work.{Work}
 use Rattle.kb_lane.specs.Lanes.{LaneValue}
-use Rattle.kb_attempts.specs.Attempts.{attempt_in}
+use Rattle.kb_histories.specs.Attempts.{attempt_in}
 use Rattle.kb_lane.specs.Asking.{asked_for, attempt_asked}
-use Rattle.kb_works.specs.Orders.{order_for, order_in, order_of, settled_by}
-use Rattle.kb_works.specs.Private.Settlements.{fault_step}
-use Rattle.kb_works.proofs.Settled.{some-same}
+use Rattle.kb_lane.specs.Orders.{order_for, order_in, order_of, settled_by}
+use Rattle.kb_lane.specs.Private.Settlements.{fault_step}
+use Rattle.kb_lane.proofs.Settled.{some-same}
 use Rattle.kb_lane.specs.Draining.{with_outbox, Writes, Accepts, Asks, Orders}
 use Rattle.kb_lane.specs.Private.Runs.{SettlesNone, IsBusy}
 

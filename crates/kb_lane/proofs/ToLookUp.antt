@@ -1,8 +1,7 @@
 -- The payments that are to be looked up are open, none of them is there twice, and the outbox has none of
 -- them.
 use Rattle.std.proofs.Common.{◌≡◌, ℕ, arith, Bool, true, false, true≢false, not, ◌||◌, bytes_eq, List, []}
-use Rattle.std.proofs.Common.{◌∷◌}
-use Rattle.std.proofs.Common.{map, flat_map, All, AllPairs, Option, Some, None, refl, sym, ap, ◌∙◌}
+use Rattle.std.proofs.Common.{◌∷◌, map, flat_map, All, AllPairs, Option, Some, None, refl, sym, ap, ◌∙◌}
 use Rattle.std.specs.List.{list_any}
 use Rattle.std.proofs.lemmas.Bool.{and_from}
 use Rattle.std.proofs.lemmas.List.Elements.{All-nil, All-cons, All-head, All-tail, All-append, All-map}
@@ -13,8 +12,8 @@ use Rattle.kb_payment.specs.PaymentSums.{open_keys, IsOpenKey}
 use Rattle.kb_gateway.specs.declared.order.Asked.{Asked}
 use Rattle.kb_book.specs.Books.{BookValue}
 use Rattle.kb_machine.specs.Machines.{MachineValue, book_of}
-use Rattle.kb_works.specs.declared.work.Work.{Work}
-use Rattle.kb_works.specs.declared.work.Work.TheVariants.{Ask, Check}
+use Rattle.kb_lane.specs.declared.work.Work.{Work}
+use Rattle.kb_lane.specs.declared.work.Work.TheVariants.{Ask, Check}
 use Rattle.kb_lane.specs.Asking.{asked_for, asks_in, attempt_asked, AreApart}
 use Rattle.kb_lane.specs.Lanes.{LaneValue, machine_of}
 use Rattle.kb_lane.specs.LookingUp.{open_in, open_payments, to_look_up, is_ask}

@@ -5,10 +5,10 @@ use Rattle.std.proofs.lemmas.List.{append_assoc, append-nil, length-append, map-
 use Rattle.kb_disk.specs.Moments.{AtEachMoment}
 use Rattle.kb_disk.proofs.Moments.{then_on, weaker}
 use Rattle.kb_journal.specs.Format.{IsWithOrWithout}
-use Rattle.kb_log.specs.Entries.{Entry, History, payload, payloads}
-use Rattle.kb_log.specs.Logs.{LogValue}
-use Rattle.kb_reply.specs.declared.step.Step.{Step}
-use Rattle.kb_reply.specs.declared.step.Step.TheVariants as steps
+use Rattle.kb_codec.specs.Entries.{Entry, History, payload, payloads}
+use Rattle.kb_lane.specs.Logs.{LogValue}
+use Rattle.kb_book.specs.declared.step.Step.{Step}
+use Rattle.kb_book.specs.declared.step.Step.TheVariants as steps
 use Rattle.kb_lane.specs.Lanes.{LaneValue, StandsThroughout, StandsWithin, IsPast, IsPart}
 use Rattle.kb_lane.specs.Draining.{Writes, IsWritten}
 use Rattle.kb_lane.specs.Going.{GoesOn, StandsPast}

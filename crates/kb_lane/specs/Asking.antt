@@ -1,14 +1,13 @@
 -- What a lane asked of its gateway, and what it is yet to ask.
-use Rattle.std.specs.Prelude.{ℕ, ◌≡◌, List, [], ◌∷◌, ◌++◌, All, IsSome, Option, None, Some}
-use Rattle.std.specs.Prelude.{codes, refl}
+use Rattle.std.specs.Prelude.{ℕ, ◌≡◌, List, [], ◌∷◌, ◌++◌, All, IsSome, Option, None, Some, codes, refl}
 use Rattle.std.specs.List.{AllPairs}
 use Rattle.kb_payment.specs.declared.attempt.Attempt.{Attempt}
 use Rattle.kb_payment.specs.declared.attempt.Status.TheVariants.{Unknown}
 use Rattle.kb_gateway.specs.declared.order.Asked.{Asked}
 use Rattle.kb_machine.specs.Machines.{MachineValue}
-use Rattle.kb_attempts.specs.Attempts.{attempt_at}
-use Rattle.kb_works.specs.declared.work.Work.{Work}
-use Rattle.kb_works.specs.declared.work.Work.TheVariants.{Ask, Check}
+use Rattle.kb_histories.specs.Attempts.{attempt_at}
+use Rattle.kb_lane.specs.declared.work.Work.{Work}
+use Rattle.kb_lane.specs.declared.work.Work.TheVariants.{Ask, Check}
 
 -- a payment that was asked for: of an account, by its key
 abbrev pub asked_for : List ℕ × List ℕ → Asked

@@ -8,17 +8,17 @@ use Rattle.kb_gateway.specs.declared.order.Order.{Order}
 use Rattle.kb_gateway.specs.declared.told.Told.{Told}
 use Rattle.kb_gateway.specs.declared.told.Saying.{Saying}
 use Rattle.kb_gateway.specs.Answers.{Notes, asked_of, said_of_ask}
-use Rattle.kb_commands.specs.declared.command.Command.{Command}
+use Rattle.kb_codec.specs.declared.command.Command.{Command}
 use Rattle.kb_journal.specs.Keeping.{IsFull}
 use Rattle.kb_book.specs.Books.{BookValue}
-use Rattle.kb_laws.specs.NextDues.{next_due}
-use Rattle.kb_reply.specs.declared.step.Step.{Step}
-use Rattle.kb_reply.specs.declared.step.Step.TheVariants as steps
-use Rattle.kb_log.specs.Entries.{Entry, payload}
-use Rattle.kb_log.specs.Logs.{LogValue}
+use Rattle.kb_book.specs.NextDues.{next_due}
+use Rattle.kb_book.specs.declared.step.Step.{Step}
+use Rattle.kb_book.specs.declared.step.Step.TheVariants as steps
+use Rattle.kb_codec.specs.Entries.{Entry, payload}
+use Rattle.kb_lane.specs.Logs.{LogValue}
 use Rattle.kb_machine.specs.Machines.{MachineValue, book_of}
-use Rattle.kb_works.specs.declared.work.Work.{Work}
-use Rattle.kb_works.specs.Orders.{order_of, settled_by}
+use Rattle.kb_lane.specs.declared.work.Work.{Work}
+use Rattle.kb_lane.specs.Orders.{order_of, settled_by}
 use Rattle.kb_lane.specs.Lanes.{LaneValue, machine_of}
 use Rattle.kb_lane.specs.Replies.{Takes, IsMarked}
 

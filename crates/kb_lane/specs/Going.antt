@@ -1,8 +1,8 @@
 -- How a log goes on over a run of steps.
 use Rattle.std.specs.Prelude.{ℕ, ◌≡◌, ◌⊎◌, ◌++◌, Bool, true, false, IsTrue, List, length}
 use Rattle.kb_disk.specs.Moments.{AtEachMoment}
-use Rattle.kb_log.specs.Entries.{History}
-use Rattle.kb_log.specs.Logs.{LogValue}
+use Rattle.kb_codec.specs.Entries.{History}
+use Rattle.kb_lane.specs.Logs.{LogValue}
 use Rattle.kb_lane.specs.Lanes.{IsPast, StandsWithin}
 
 -- a history goes on from another

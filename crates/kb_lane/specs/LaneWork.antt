@@ -2,10 +2,10 @@
 use Rattle.std.specs.Prelude.{ℕ, ◌+◌, ◌≡◌, Bool, true, bytes_eq, List, [], ◌∷◌, sum_by, codes, refl}
 use Rattle.std.specs.List.{list_any}
 use Rattle.kb_days.specs.Dates.{march}
-use Rattle.kb_attempts.specs.SmallMachines.{owing_book, machine_with}
-use Rattle.kb_drains.specs.OwnWork.{all_work}
-use Rattle.kb_works.specs.declared.work.Work.{Work}
-use Rattle.kb_works.specs.declared.work.Work.TheVariants.{Ask, Check}
+use Rattle.kb_histories.specs.SmallMachines.{owing_book, machine_with}
+use Rattle.kb_histories.specs.OwnWork.{all_work}
+use Rattle.kb_lane.specs.declared.work.Work.{Work}
+use Rattle.kb_lane.specs.declared.work.Work.TheVariants.{Ask, Check}
 use Rattle.kb_lane.specs.Lanes.{LaneValue, machine_of}
 
 -- what an entry of an outbox takes: a look is one step, and an order two, since its settlement leaves a look

@@ -4,11 +4,11 @@ use Rattle.std.specs.Prelude.{take}
 use Rattle.kb_disk.specs.Moments.{AtEachMoment}
 use Rattle.kb_journal.specs.Format.{IsWithOrWithout, StandsFor}
 use Rattle.kb_gateway.specs.declared.order.Asked.{Asked}
-use Rattle.kb_log.specs.Entries.{Entry, History, payload, payloads}
-use Rattle.kb_log.specs.Logs.{LogValue}
+use Rattle.kb_codec.specs.Entries.{Entry, History, payload, payloads}
+use Rattle.kb_lane.specs.Logs.{LogValue}
 use Rattle.kb_machine.specs.Machines.{MachineValue, no_machine}
 use Rattle.kb_machine.specs.Histories.{AreNewFrom, replay}
-use Rattle.kb_works.specs.declared.work.Work.{Work}
+use Rattle.kb_lane.specs.declared.work.Work.{Work}
 use Rattle.kb_lane.specs.Asking.{asks_in, AsksOnce, EndsWith}
 
 -- A lane: what it is yet to do, and what it asked its gateway for since it was opened. Its accounts and texts

@@ -5,7 +5,7 @@ use Rattle.kb_journal.specs.declared.fault.LoadFault.{LoadFault}
 use Rattle.kb_journal.specs.declared.fault.LoadFault.TheVariants.{NotAJournal, DiskFault, NoMemory}
 use Rattle.kb_journal.specs.Format.{StandsFor}
 use Rattle.kb_journal.specs.Reading.{IsNoJournal}
-use Rattle.kb_records.specs.StuckRecords.{IsStuckAt}
+use Rattle.kb_lane.specs.StuckRecords.{IsStuckAt}
 
 -- the bytes are no journal of a lane, or are one, and the record at this place stands for no new command
 abbrev pub IsNoLane : ℕ → List ℕ → ℕ → Type 0

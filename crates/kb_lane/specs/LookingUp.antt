@@ -1,8 +1,7 @@
 -- How a lane looks up what became of its open payments.
 use Rattle.std.specs.Prelude.{ℕ, ◌≡◌, not, ◌&&◌, Bool, true, false, bytes_eq, List, [], ◌∷◌, map, filter}
-use Rattle.std.specs.Prelude.{length}
-use Rattle.std.specs.Prelude.{Option, None, Some, Result, Ok, Err, if◌then◌else◌, option_map, codes, refl}
-use Rattle.std.specs.Prelude.{flat_map, ◌⊎◌}
+use Rattle.std.specs.Prelude.{length, Option, None, Some, Result, Ok, Err, if◌then◌else◌, option_map, codes}
+use Rattle.std.specs.Prelude.{refl, flat_map, ◌⊎◌}
 use Rattle.std.specs.List.{list_any}
 use Rattle.kb_base.specs.declared.fault.Failed.{Failed}
 use Rattle.kb_base.specs.Faults.{HasCause}
@@ -17,18 +16,18 @@ use Rattle.kb_gateway.specs.declared.told.Seen.{Seen}
 use Rattle.kb_gateway.specs.declared.told.Seen.TheVariants as seen
 use Rattle.kb_gateway.specs.declared.told.Saying.{Saying}
 use Rattle.kb_gateway.specs.Answers.{Notes, said_of_look_up, status_of}
-use Rattle.kb_commands.specs.declared.command.Command.{Command}
-use Rattle.kb_commands.specs.declared.command.Command.TheVariants as kinds
+use Rattle.kb_codec.specs.declared.command.Command.{Command}
+use Rattle.kb_codec.specs.declared.command.Command.TheVariants as kinds
 use Rattle.kb_book.specs.Books.{BookValue}
 use Rattle.kb_book.specs.PaymentRows.{same_status}
-use Rattle.kb_reply.specs.declared.step.Step.{Step}
-use Rattle.kb_reply.specs.declared.step.Step.TheVariants as steps
+use Rattle.kb_book.specs.declared.step.Step.{Step}
+use Rattle.kb_book.specs.declared.step.Step.TheVariants as steps
 use Rattle.kb_machine.specs.Machines.{MachineValue, book_of}
-use Rattle.kb_works.specs.declared.work.Work.{Work}
-use Rattle.kb_works.specs.declared.work.Work.TheVariants.{Ask, Check}
+use Rattle.kb_lane.specs.declared.work.Work.{Work}
+use Rattle.kb_lane.specs.declared.work.Work.TheVariants.{Ask, Check}
 use Rattle.kb_lane.specs.Asking.{asked_for, attempt_asked}
 use Rattle.kb_lane.specs.Lanes.{LaneValue, machine_of}
-use Rattle.kb_works.specs.Orders.{order_of}
+use Rattle.kb_lane.specs.Orders.{order_of}
 use Rattle.kb_lane.specs.Draining.{Accepts}
 
 -- the payments of an account whose attempts are open, by their keys

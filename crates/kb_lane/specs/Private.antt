@@ -1,3 +1,6 @@
-pub mod Unwritten
 pub mod Looking
+pub mod Parts
+pub mod Replays
 pub mod Runs
+pub mod Settlements
+pub mod Unwritten

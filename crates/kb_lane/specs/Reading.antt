@@ -5,9 +5,9 @@ use Rattle.kb_book.specs.Books.{BookValue}
 use Rattle.kb_book.specs.Worlds.{WorldValue}
 use Rattle.kb_book.specs.declared.refusal.Refusal.{Refusal}
 use Rattle.kb_book.specs.declared.refusal.Refusal.TheVariants.{NoAccount}
-use Rattle.kb_account.specs.declared.query.Query.{Query}
-use Rattle.kb_account.specs.declared.query.Query.TheVariants as queries
-use Rattle.kb_account.specs.declared.view.View.{View}
+use Rattle.kb_book.specs.declared.query.Query.{Query}
+use Rattle.kb_book.specs.declared.query.Query.TheVariants as queries
+use Rattle.kb_book.specs.declared.views.View.{View}
 use Rattle.kb_account.specs.Views.{answer_to}
 use Rattle.kb_machine.specs.Machines.{MachineValue, no_machine, book_of}
 

@@ -1,16 +1,16 @@
 -- What a lane replies to a command, and what it leaves.
 use Rattle.std.specs.Prelude.{ℕ, ◌≡◌, ◌+◌, Bool, true, false, ◌&&◌, [], ◌∷◌, ◌++◌, length, ⊤}
 use Rattle.kb_base.specs.Faults.{Rose}
-use Rattle.kb_reply.specs.declared.reply.LaneReply.{LaneReply}
-use Rattle.kb_reply.specs.declared.reply.LaneReply.TheVariants as replies
-use Rattle.kb_log.specs.Entries.{Entry, payload}
-use Rattle.kb_log.specs.Logs.{MayAppend}
+use Rattle.kb_book.specs.declared.reply.LaneReply.{LaneReply}
+use Rattle.kb_book.specs.declared.reply.LaneReply.TheVariants as replies
+use Rattle.kb_codec.specs.Entries.{Entry, payload}
+use Rattle.kb_lane.specs.Logs.{MayAppend}
 use Rattle.kb_machine.specs.Judged.{Judged, is_new}
 use Rattle.kb_journal.specs.Keeping.{IsFull}
-use Rattle.kb_commands.specs.declared.command.Command.{Command}
+use Rattle.kb_codec.specs.declared.command.Command.{Command}
 use Rattle.kb_machine.specs.Machines.{MachineValue, judged, reply_of}
 use Rattle.kb_lane.specs.Lanes.{LaneValue, machine_of}
-use Rattle.kb_works.specs.Works.{work_of}
+use Rattle.kb_lane.specs.Outbox.{work_of}
 
 -- The reply is the machine's, unless memory ran out; or the command is new, and isn't written down.
 abbrev pub IsReply : Judged LaneReply MachineValue → LaneReply → Type 0

@@ -3,25 +3,29 @@ ghost use Rattle.std.specs.Prelude.{◌≡◌, ◌≤◌, ◌<◌, ◌^◌, ◌�
 ghost use Rattle.std.specs.Prelude.{true, false, length, IsSome, IfSome};
 ghost use Rattle.std.specs.Option.{option_to_list};
 ghost use Rattle.kb_days.specs.Calendar.{last_day};
-ghost use Rattle.kb_log.specs.Entries.{Entry};
-ghost use Rattle.kb_reply.specs.declared.step.Step.TheVariants as steps;
+ghost use Rattle.kb_codec.specs.Entries.{Entry};
+ghost use Rattle.kb_book.specs.declared.step.Step.TheVariants as steps;
 ghost use Rattle.kb_machine.specs.Judged.{is_new};
 ghost use Rattle.kb_machine.specs.Machines.{judged};
-ghost use Rattle.kb_works.specs.declared.work.Work.{Work as AnyWork};
-ghost use Rattle.kb_works.specs.declared.work.Work.TheVariants as works;
-ghost use Rattle.kb_works.specs.Orders.{order_of};
-ghost use Rattle.kb_works.specs.Private.Settlements.{AreReady};
+ghost use Rattle.kb_lane.specs.declared.work.Work.{Work as AnyWork};
+ghost use Rattle.kb_lane.specs.declared.work.Work.TheVariants as works;
+ghost use Rattle.kb_lane.specs.Orders.{order_of};
+ghost use Rattle.kb_lane.specs.Private.Settlements.{AreReady};
 ghost use Rattle.kb_lane.specs.Lanes.{StandsThroughout, StaysItself, machine_of};
 ghost use Rattle.kb_lane.specs.LaneWork.{lane_work};
 ghost use Rattle.kb_lane.specs.Draining.{due_of, Looks, Asks, Orders, Writes, IsWritten};
 ghost use Rattle.kb_lane.specs.Private.Runs.{SettlesNone, IsBusy};
 
-use crate::{Lane, LaneReply, Step, Work};
-use kb_commands::Command;
+use crate::lane::Lane;
+use crate::order::order_of;
+use crate::settlement::Settlements;
+use crate::work::Work;
+use crate::written::{stopped_by, write};
+use kb_book::{LaneReply, Step};
+use kb_codec::Command;
 use kb_days::{Day, Name};
 use kb_disk::Disk;
 use kb_gateway::{Gateway, Order};
-use kb_works::{Settlements, order_of, stopped_by, write};
 use std::alloc::Global;
 
 impl<D: Disk, G: Gateway + Drop> Lane<D, G> {
@@ -115,7 +119,7 @@ impl<D: Disk, G: Gateway + Drop> Lane<D, G> {
     }
 
     /// Accepts a command of the lane's own, which is new.
-    #[tactic(auto, using(crate::proofs::Written::written_moments))]
+    #[tactic(auto, using(crate::proofs::WrittenDown::written_moments))]
     pub(crate) fn accept_own(&mut self, alloc: Global, today: Day, command: &Command) -> Step
         requires new { is_new (judged (machine_of self.old) today command.now) ≡ true }
         requires free { SettlesNone command.now self.old.outbox }
@@ -137,7 +141,7 @@ impl<D: Disk, G: Gateway + Drop> Lane<D, G> {
     }
 
     /// The command that an account asks for by itself: it is new.
-    #[tactic(auto, using(kb_attempts::proofs::DueNews::due_commands_are_new, kb_attempts::proofs::NamedBooks::replays_are_named, crate::proofs::Freed::due_settles_none))]
+    #[tactic(auto, using(kb_histories::proofs::DueNews::due_commands_are_new, kb_histories::proofs::NamedBooks::replays_are_named, crate::proofs::Freed::due_settles_none))]
     fn due(&self, today: Day, account: &Name) -> Option<Command>
         ensures due { result ≡ due_of (machine_of self.now) today account.now }
         ensures new { IfSome result (λ command. is_new (judged (machine_of self.now) today command) ≡ true) }
@@ -171,7 +175,7 @@ impl<D: Disk, G: Gateway + Drop> Lane<D, G> {
 
     /// Asks the gateway for an order, and takes it off the outbox; then settles it by the answer, for which
     /// it takes no memory.
-    #[tactic(auto, using(kb_works::proofs::Choices::all_four))]
+    #[tactic(auto, using(crate::proofs::Choices::all_four))]
     fn ask(
         &mut self,
         today: Day,

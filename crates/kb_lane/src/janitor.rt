@@ -1,11 +1,10 @@
 //! Payments whose outcome isn't known, looked up.
-ghost use Rattle.std.specs.Prelude.{◌≡◌, ◌⊎◌, ◌++◌, true, false, None, Some, IfOk, OnOk};
-ghost use Rattle.std.specs.Prelude.{if◌then◌else◌};
+ghost use Rattle.std.specs.Prelude.{◌≡◌, ◌⊎◌, ◌++◌, true, false, None, Some, IfOk, OnOk, if◌then◌else◌};
 ghost use Rattle.std.specs.List.{list_any};
-ghost use Rattle.kb_commands.specs.declared.command.Command.TheVariants as kinds;
+ghost use Rattle.kb_codec.specs.declared.command.Command.TheVariants as kinds;
 ghost use Rattle.kb_payment.specs.declared.attempt.Attempt.{Attempt as AnyAttempt};
 ghost use Rattle.kb_gateway.specs.declared.order.Asked.{Asked as AnyAsked};
-ghost use Rattle.kb_reply.specs.declared.step.Step.TheVariants as steps;
+ghost use Rattle.kb_book.specs.declared.step.Step.TheVariants as steps;
 ghost use Rattle.kb_machine.specs.Judged.{is_new};
 ghost use Rattle.kb_machine.specs.Machines.{judged};
 ghost use Rattle.kb_lane.specs.Asking.{asks_in, attempt_asked};
@@ -18,9 +17,11 @@ ghost use Rattle.kb_lane.specs.Private.Looking.{left_one};
 ghost use Rattle.kb_lane.specs.Going.{GoesOn, GoesWell, StandsPast};
 ghost use Rattle.kb_lane.specs.Private.Runs.{SettlesNone};
 
-use crate::{Lane, Step, Work};
+use crate::lane::Lane;
+use crate::work::Work;
 use kb_base::{Failed, NoMemory};
-use kb_commands::{Command, Settle};
+use kb_book::Step;
+use kb_codec::{Command, Settle};
 use kb_days::{Day, Name};
 use kb_disk::Disk;
 use kb_gateway::{Asked, Gateway, Seen, status_of};

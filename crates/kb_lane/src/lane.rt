@@ -3,20 +3,20 @@ ghost use Rattle.std.specs.Prelude.{◌≡◌, ◌≤◌, ◌<◌, [], true, fal
 ghost use Rattle.std.specs.Option.{option_copied};
 ghost use Rattle.kb_base.specs.Faults.{Rose};
 ghost use Rattle.kb_journal.specs.Keeping.{Holds, RefusesToCreate};
-ghost use Rattle.kb_log.specs.Entries.{payloads};
-ghost use Rattle.kb_log.specs.Logs.{StandsForLog};
+ghost use Rattle.kb_codec.specs.Entries.{payloads};
+ghost use Rattle.kb_lane.specs.Logs.{StandsForLog};
 ghost use Rattle.kb_machine.specs.Machines.{book_of};
 ghost use Rattle.kb_lane.specs.Asking.{WasAskedOnce};
 ghost use Rattle.kb_lane.specs.Lanes.{machine_of, opened_of};
 
-use crate::Work;
+use crate::log::Log;
+use crate::work::Work;
 use kb_account::{Book, World};
+use kb_base::History;
 use kb_days::Name;
 use kb_disk::Disk;
 use kb_gateway::Gateway;
-use kb_history::History;
 use kb_journal::CreateFault;
-use kb_log::Log;
 use kb_machine::Machine;
 use std::alloc::Global;
 use std::collections::VecDeque;

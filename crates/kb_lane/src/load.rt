@@ -3,18 +3,18 @@ ghost use Rattle.std.specs.Prelude.{◌≡◌, ◌≤◌, [], false, length, IsT
 ghost use Rattle.kb_journal.specs.Keeping.{Holds};
 ghost use Rattle.kb_journal.specs.Format.{StandsFor};
 ghost use Rattle.kb_journal.specs.Unwritten.{IsUnwritten};
-ghost use Rattle.kb_log.specs.Entries.{payloads};
+ghost use Rattle.kb_codec.specs.Entries.{payloads};
 ghost use Rattle.kb_machine.specs.Machines.{no_machine};
 ghost use Rattle.kb_machine.specs.Histories.{AreNewFrom};
 ghost use Rattle.kb_lane.specs.Loads.{RefusesLane};
 
-use crate::Lane;
+use crate::lane::Lane;
+use crate::log::Log;
+use crate::replayed::{Replayed, replay_all};
+use kb_base::History;
 use kb_disk::Disk;
 use kb_gateway::Gateway;
-use kb_history::History;
 use kb_journal::{Journal, LoadFault};
-use kb_log::Log;
-use kb_records::{Replayed, replay_all};
 use std::alloc::Global;
 use std::collections::VecDeque;
 

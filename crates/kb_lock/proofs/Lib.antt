@@ -1,5 +1,5 @@
-pub mod Prefixes
-mod Views
+mod InTurn
 mod Kept
 mod Moves
-mod InTurn
+pub mod Prefixes
+mod Views

@@ -1,4 +1,4 @@
-pub mod Passes
-pub mod Rule
 pub mod FirstCome
+pub mod Passes
 pub mod Private
+pub mod Rule

@@ -1,4 +1,5 @@
--- What only private contracts and proofs cite.
-pub mod Views
-pub mod Plays
 pub mod Inside
+pub mod Plays
+pub mod Views
+
+-- What only private contracts and proofs cite.

@@ -1,9 +1,8 @@
 -- Whether a version may be added, as the catalog says it and as the rows of refusals do.
-use Rattle.std.proofs.Common.{◌≡◌, ◌<◌, ◌≤◌, ◌==◌, true, false, Bool, List, length, Option, Some}
-use Rattle.std.proofs.Common.{None, refl, arith}
-use Rattle.std.proofs.Common.{IfSome, IsSomeAnd}
+use Rattle.std.proofs.Common.{◌≡◌, ◌<◌, ◌≤◌, ◌==◌, true, false, Bool, List, length, Option, Some, None, refl}
+use Rattle.std.proofs.Common.{arith, IfSome, IsSomeAnd}
 use Rattle.std.proofs.lemmas.Bool.Decides.{nat_tests}
-use Rattle.kb_valid.specs.declared.version.Version.{Version}
+use Rattle.kb_catalog.specs.declared.version.Version.{Version}
 use Rattle.kb_catalog.specs.Catalogs.{max_versions, IsEarly, IsLater}
 use Rattle.kb_book.specs.declared.refusal.Refusal.TheVariants.{VersionOrder}
 use Rattle.kb_book.specs.Rows.{first_refusal, limit}

@@ -4,8 +4,8 @@ use Rattle.std.specs.FinMap.{find, put}
 use Rattle.kb_sharing.specs.Keys.{by_words}
 use Rattle.kb_book.specs.Worlds.{WorldValue}
 use Rattle.kb_book.specs.Books.{BookValue, Keyed}
-use Rattle.kb_laws.specs.BilledBooks.{IsBilled}
-use Rattle.kb_laws.proofs.RepeatedCommands.{find-put-self}
+use Rattle.kb_book.specs.BilledBooks.{IsBilled}
+use Rattle.kb_book.proofs.RepeatedCommands.{find-put-self}
 use Rattle.kb_machine.specs.Private.KnownBooks.{IsBilledOf}
 
 pub put-known : (world : WorldValue) (account : List ℕ) (next : BookValue) (old books : Keyed BookValue)

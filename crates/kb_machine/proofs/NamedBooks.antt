@@ -1,6 +1,5 @@
 -- Books by name, as std's map has them and as the definitions have them.
-use Rattle.std.proofs.Common.{◌≡◌, ℕ, true≢false, refl, sym, ap, ◌∙◌, List, [], ◌∷◌, Some, None, cond}
-use Rattle.std.proofs.Common.{IsSome}
+use Rattle.std.proofs.Common.{◌≡◌, ℕ, true≢false, refl, sym, ap, ◌∙◌, List, [], ◌∷◌, Some, None, cond, IsSome}
 use Rattle.std.proofs.Common.{get_or, AllPairs}
 use Rattle.std.proofs.lemmas.Map.Keys.{Less-from_sorted}
 use Rattle.std.specs.declared.cmp.Ordering.TheVariants.{Less, Equal, Greater}

@@ -3,19 +3,19 @@ use Rattle.std.proofs.Common.{◌≡◌, ℕ, ◌<◌, nat_le, Bool, false, leng
 use Rattle.std.proofs.Common.{subst, arith}
 use Rattle.std.proofs.lemmas.Bool.Decides.{nat_tests}
 use Rattle.kb_days.specs.Calendar.{first_day, charged_days}
-use Rattle.kb_commands.specs.declared.command.Command.{Command}
-use Rattle.kb_commands.specs.declared.command.Command.TheVariants as kinds
-use Rattle.kb_commands.specs.declared.command.OpenAccount.{OpenAccount}
+use Rattle.kb_codec.specs.declared.command.Command.{Command}
+use Rattle.kb_codec.specs.declared.command.Command.TheVariants as kinds
+use Rattle.kb_codec.specs.declared.command.OpenAccount.{OpenAccount}
 use Rattle.kb_book.specs.declared.answer.Answer.{Answer}
 use Rattle.kb_book.specs.Books.{BookValue}
 use Rattle.kb_book.specs.Rows.{first_refusal, limit}
 use Rattle.kb_book.specs.Steps.{Outcome, accepted_over}
 use Rattle.kb_account.specs.Prepares.{opening_book}
-use Rattle.kb_reply.specs.declared.reply.LaneReply.TheVariants as replies
+use Rattle.kb_book.specs.declared.reply.LaneReply.TheVariants as replies
 use Rattle.kb_machine.specs.Judged.{New, lifted, unless_refused}
-use Rattle.kb_machine.specs.Machines.{MachineValue, max_accounts, account_of, book_of, with_book}
-use Rattle.kb_machine.specs.Machines.{account_judged}
-use Rattle.kb_machine.specs.Machines.{by_book, of_outcome}
+use Rattle.kb_machine.specs.Machines.{MachineValue, max_accounts, book_of, with_book, account_judged, by_book}
+use Rattle.kb_machine.specs.Machines.{of_outcome}
+use Rattle.kb_codec.specs.Senders.{account_of}
 
 room : (count : ℕ) → count < max_accounts → nat_le max_accounts count ≡ false
 room count few = grind (arith, nat_tests)

@@ -2,9 +2,9 @@
 use Rattle.std.proofs.Common.{◌≡◌, ℕ, [], ◌∷◌, ◌++◌, refl, ap, ◌∙◌}
 use Rattle.std.specs.List.{fold}
 use Rattle.std.proofs.lemmas.List.Sums.{fold-append}
-use Rattle.kb_commands.specs.declared.command.Command.{Command}
-use Rattle.kb_log.specs.Entries.{Entry, History}
-use Rattle.kb_reply.specs.declared.reply.LaneReply.{LaneReply}
+use Rattle.kb_codec.specs.declared.command.Command.{Command}
+use Rattle.kb_codec.specs.Entries.{Entry, History}
+use Rattle.kb_book.specs.declared.reply.LaneReply.{LaneReply}
 use Rattle.kb_machine.specs.Judged.{New, after_judged, is_new}
 use Rattle.kb_machine.specs.Machines.{MachineValue, no_machine, judged}
 use Rattle.kb_machine.specs.Histories.{entry_after, replay, IsNewOn, AreNewFrom}

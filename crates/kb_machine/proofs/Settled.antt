@@ -1,13 +1,14 @@
 -- A settlement of an account that is there is new, with what its book makes of it.
 use Rattle.std.proofs.Common.{◌≡◌, ℕ, List, Some, Ok, refl}
-use Rattle.kb_commands.specs.declared.command.Command.{Command}
+use Rattle.kb_codec.specs.declared.command.Command.{Command}
 use Rattle.kb_book.specs.declared.answer.Answer.{Answer}
 use Rattle.kb_book.specs.Books.{BookValue}
 use Rattle.kb_book.specs.Steps.{step}
 use Rattle.kb_account.specs.Issues.{IsSettlement}
-use Rattle.kb_reply.specs.declared.reply.LaneReply.TheVariants as replies
+use Rattle.kb_book.specs.declared.reply.LaneReply.TheVariants as replies
 use Rattle.kb_machine.specs.Judged.{New}
-use Rattle.kb_machine.specs.Machines.{MachineValue, judged, account_of, book_of, with_book}
+use Rattle.kb_machine.specs.Machines.{MachineValue, judged, book_of, with_book}
+use Rattle.kb_codec.specs.Senders.{account_of}
 
 pub judged-settled : (machine : MachineValue) (today : ℕ) (command : Command) (account : List ℕ)
     (book after : BookValue) (answer : Answer) → IsSettlement command → account ≡ account_of command

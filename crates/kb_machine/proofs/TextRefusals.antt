@@ -1,9 +1,9 @@
 -- The refusal of a text, as its own rule says it and as the machine does.
 use Rattle.std.proofs.Common.{◌≡◌, ℕ, refl, Result, IfErr}
-use Rattle.kb_commands.specs.declared.command.Command.{Command}
-use Rattle.kb_commands.specs.declared.command.Command.TheVariants as kinds
-use Rattle.kb_commands.specs.declared.command.Catalog.{Catalog}
-use Rattle.kb_commands.specs.declared.command.OverdueRules.{OverdueRules}
+use Rattle.kb_codec.specs.declared.command.Command.{Command}
+use Rattle.kb_codec.specs.declared.command.Command.TheVariants as kinds
+use Rattle.kb_codec.specs.declared.command.Catalog.{Catalog}
+use Rattle.kb_codec.specs.declared.command.OverdueRules.{OverdueRules}
 use Rattle.kb_book.specs.Rows.{IsUnprepared}
 use Rattle.kb_book.specs.declared.unprepared.Unprepared.{Unprepared}
 use Rattle.kb_machine.specs.declared.change.Planned.{Planned}

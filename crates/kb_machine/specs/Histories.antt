@@ -1,7 +1,7 @@
 -- What a history of commands leads to.
 use Rattle.std.specs.Prelude.{◌≡◌, true, [], ◌∷◌, ⊤}
 use Rattle.std.specs.List.{fold}
-use Rattle.kb_log.specs.Entries.{Entry, History}
+use Rattle.kb_codec.specs.Entries.{Entry, History}
 use Rattle.kb_machine.specs.Judged.{after_judged, is_new}
 use Rattle.kb_machine.specs.Machines.{MachineValue, no_machine, judged}
 

@@ -1,6 +1,6 @@
-pub mod Judged
-pub mod Texts
-pub mod Machines
 pub mod Histories
+pub mod Judged
+pub mod Machines
 pub mod Plans
 pub mod Private
+pub mod Texts

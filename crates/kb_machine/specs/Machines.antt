@@ -5,8 +5,9 @@ use Rattle.std.specs.FinMap.{find, put}
 use Rattle.kb_sharing.specs.Keys.{by_words}
 use Rattle.kb_days.specs.Calendar.{first_day, charged_days}
 use Rattle.kb_days.specs.Dates.{march}
-use Rattle.kb_commands.specs.declared.command.Command.{Command}
-use Rattle.kb_commands.specs.declared.command.Command.TheVariants as kinds
+use Rattle.kb_codec.specs.declared.command.Command.{Command}
+use Rattle.kb_codec.specs.declared.command.Command.TheVariants as kinds
+use Rattle.kb_codec.specs.Senders.{account_of, is_text, is_callers}
 use Rattle.kb_book.specs.declared.answer.Answer.{Answer}
 use Rattle.kb_book.specs.declared.refusal.Refusal.{Refusal}
 use Rattle.kb_book.specs.declared.refusal.Refusal.TheVariants.{NoAccount}
@@ -15,8 +16,8 @@ use Rattle.kb_book.specs.Books.{BookValue, Keyed}
 use Rattle.kb_book.specs.Rows.{Rows, first_refusal, limit}
 use Rattle.kb_book.specs.Steps.{Outcome, accepted_over, step}
 use Rattle.kb_account.specs.Prepares.{is_kept_command, opening_book}
-use Rattle.kb_reply.specs.declared.reply.LaneReply.{LaneReply}
-use Rattle.kb_reply.specs.declared.reply.LaneReply.TheVariants as replies
+use Rattle.kb_book.specs.declared.reply.LaneReply.{LaneReply}
+use Rattle.kb_book.specs.declared.reply.LaneReply.TheVariants as replies
 use Rattle.kb_machine.specs.Judged.{Judged, New, Again, Refused, unless_refused, lifted}
 use Rattle.kb_machine.specs.Texts.{TextsValue, no_texts, catalog_judged, overdue_judged}
 
@@ -32,42 +33,6 @@ no_machine = record { texts = no_texts; books = [] }
 -- the most accounts that a machine has
 abbrev pub max_accounts : ℕ
 max_accounts = 100000
-
--- the account that a command is on; that of a text has no letter
-abbrev pub account_of : Command → List ℕ
-account_of (kinds.Catalog c) = []
-account_of (kinds.OverdueRules c) = []
-account_of (kinds.OpenAccount c) = c.account
-account_of (kinds.Create c) = c.account
-account_of (kinds.Change c) = c.account
-account_of (kinds.Cancel c) = c.account
-account_of (kinds.Uncancel c) = c.account
-account_of (kinds.Pause c) = c.account
-account_of (kinds.Resume c) = c.account
-account_of (kinds.Block c) = c.account
-account_of (kinds.Bill c) = c.account
-account_of (kinds.Charge c) = c.account
-account_of (kinds.Credit c) = c.account
-account_of (kinds.Pay c) = c.account
-account_of (kinds.Refund c) = c.account
-account_of (kinds.Chargeback c) = c.account
-account_of (kinds.Autopay c) = c.account
-account_of (kinds.Auto c) = c.account
-account_of (kinds.Settle c) = c.account
-account_of (kinds.Overdue c) = c.account
-
--- a command is a text
-abbrev pub is_text : Command → Bool
-is_text (kinds.Catalog c) = true
-is_text (kinds.OverdueRules c) = true
-is_text _ = false
-
--- a command of a caller: no automatic payment, settlement or overdue transition
-abbrev pub is_callers : Command → Bool
-is_callers (kinds.Auto c) = false
-is_callers (kinds.Settle c) = false
-is_callers (kinds.Overdue c) = false
-is_callers _ = true
 
 -- the book of an account, if it is there
 abbrev pub book_of : MachineValue → List ℕ → Option BookValue

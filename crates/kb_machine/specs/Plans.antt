@@ -1,12 +1,12 @@
 -- What is planned for a command.
 use Rattle.std.specs.Prelude.{ℕ, ◌≡◌, List, IsSome, None, Some}
 use Rattle.std.specs.FinMap.{entries}
-use Rattle.kb_billing.specs.declared.issue.Issue.{Issue}
+use Rattle.kb_tree.specs.declared.issue.Issue.{Issue}
 use Rattle.kb_book.specs.Books.{BookValue}
-use Rattle.kb_laws.specs.BilledBooks.{IsBilled}
+use Rattle.kb_book.specs.BilledBooks.{IsBilled}
 use Rattle.kb_account.specs.Issues.{IsIssueOf}
-use Rattle.kb_reply.specs.declared.reply.LaneReply.{LaneReply}
-use Rattle.kb_reply.specs.declared.reply.LaneReply.TheVariants as replies
+use Rattle.kb_book.specs.declared.reply.LaneReply.{LaneReply}
+use Rattle.kb_book.specs.declared.reply.LaneReply.TheVariants as replies
 use Rattle.kb_machine.specs.Judged.{Judged, New, Again}
 use Rattle.kb_machine.specs.Machines.{MachineValue, with_texts, with_book, book_of}
 use Rattle.kb_machine.specs.declared.change.Change.{Change}

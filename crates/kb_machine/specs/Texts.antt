@@ -1,15 +1,14 @@
 -- The texts of a lane, and what becomes of one that is handed in.
-use Rattle.std.specs.Prelude.{ℕ, ◌+◌, ◌-◌, ◌==◌, Bool, false, nat_le, bytes_eq, List, [], ◌∷◌}
-use Rattle.std.specs.Prelude.{◌++◌, length}
+use Rattle.std.specs.Prelude.{ℕ, ◌+◌, ◌-◌, ◌==◌, Bool, false, nat_le, bytes_eq, List, [], ◌∷◌, ◌++◌, length}
 use Rattle.std.specs.Prelude.{slice_get, Option, Some, None, if◌then◌else◌}
 use Rattle.std.specs.FinMap.{find, put}
 use Rattle.kb_sharing.specs.Keys.{by_words}
-use Rattle.kb_valid.specs.declared.version.Version.{Version}
+use Rattle.kb_catalog.specs.declared.version.Version.{Version}
 use Rattle.kb_catalog.specs.Catalogs.{max_versions}
-use Rattle.kb_commands.specs.declared.command.Catalog.{Catalog}
-use Rattle.kb_commands.specs.declared.command.OverdueRules.{OverdueRules}
-use Rattle.kb_commands.specs.declared.command.Command.TheVariants as kinds
-use Rattle.kb_codec.specs.Commands.{spelling}
+use Rattle.kb_codec.specs.declared.command.Catalog.{Catalog}
+use Rattle.kb_codec.specs.declared.command.OverdueRules.{OverdueRules}
+use Rattle.kb_codec.specs.declared.command.Command.TheVariants as kinds
+use Rattle.kb_codec.specs.CommandBytes.{spelling}
 use Rattle.kb_book.specs.declared.refusal.Refusal.TheVariants.{KeyReused, VersionOrder}
 use Rattle.kb_book.specs.Worlds.{WorldValue}
 use Rattle.kb_book.specs.Books.{Keyed}

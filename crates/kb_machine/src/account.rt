@@ -1,8 +1,9 @@
 //! The account of a command.
 ghost use Rattle.std.specs.Prelude.{◌≡◌, ℕ, true, false, IfSome, IfNone};
-ghost use Rattle.kb_machine.specs.Machines.{MachineValue, account_of, judged, account_judged, is_text};
+ghost use Rattle.kb_machine.specs.Machines.{MachineValue, judged, account_judged};
+ghost use Rattle.kb_codec.specs.Senders.{is_text, account_of};
 
-use kb_commands::Command;
+use kb_codec::Command;
 use kb_days::Name;
 
 /// The account that a command is on; none for a text.

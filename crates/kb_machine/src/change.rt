@@ -1,12 +1,11 @@
 //! What a command is planned to change.
 
-use crate::KeptText;
+use crate::kept_text::KeptText;
 use kb_account::{Book, Next};
-use kb_book::Answer;
+use kb_book::{Answer, LaneReply};
 use kb_catalog::Catalog;
 use kb_days::Name;
 use kb_overdue::Config;
-use kb_reply::LaneReply;
 use kb_sharing::SharedMap;
 
 /// What a new command makes of a machine, with all memory taken.

@@ -1,7 +1,7 @@
 //! A book, with what is due of it.
 
 use kb_account::Book;
-use kb_billing::Issue;
+use kb_tree::Issue;
 use std::marker::Model;
 
 /// The book of an account as it stands, and the items that bring it up to what is due.

@@ -15,8 +15,6 @@ mod machine;
 mod texts;
 
 pub use account::account_of;
-pub use books::Books;
 pub use change::{Change, Opened, Planned};
 pub use due_book::DueBook;
-pub use kept_text::KeptText;
-pub use machine::{MAX_ACCOUNTS, Machine};
+pub use machine::Machine;

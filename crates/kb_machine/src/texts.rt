@@ -2,27 +2,26 @@
 ghost use Rattle.std.specs.Prelude.{◌≡◌, ℕ, [], ◌∷◌, ◌++◌, IfOk, IfErr, IfSome, IfNone, OnOk, Some, None};
 ghost use Rattle.std.specs.FinMap.{entries, find, put};
 ghost use Rattle.kb_sharing.specs.Keys.{by_words};
-ghost use Rattle.kb_commands.specs.declared.command.Command.TheVariants as kinds;
+ghost use Rattle.kb_codec.specs.declared.command.Command.TheVariants as kinds;
 ghost use Rattle.kb_book.specs.Rows.{IsUnprepared, first_refusal};
-ghost use Rattle.kb_reply.specs.declared.reply.LaneReply.TheVariants as replies;
+ghost use Rattle.kb_book.specs.declared.reply.LaneReply.TheVariants as replies;
 ghost use Rattle.kb_machine.specs.Judged.{Judged, Again, refusal_in, lifted};
 ghost use Rattle.kb_machine.specs.Texts.{TextsValue, by_key, catalog_rows, catalog_judged, overdue_judged};
 ghost use Rattle.kb_machine.specs.Machines.{with_texts};
 ghost use Rattle.kb_machine.specs.Plans.{plan_judged, Fits};
 
-use crate::{Change, KeptText, Machine, Planned};
+use crate::change::{Change, Planned};
+use crate::kept_text::KeptText;
+use crate::machine::Machine;
 use kb_account::World;
 use kb_base::{NoMemory, Seq};
-use kb_book::{Refusal, Unprepared};
-use kb_catalog::{AddFault, Catalog};
+use kb_book::{LaneReply, Refusal, Unprepared};
+use kb_catalog::{AddFault, Catalog, Valid};
 use kb_catalog_text::{Checked, CheckedOverdue, read, read_overdue};
-use kb_codec::encode;
-use kb_commands::{Catalog as CatalogText, Command, OverdueRules};
+use kb_codec::{Catalog as CatalogText, Command, OverdueRules, encode};
 use kb_days::Name;
 use kb_overdue::Config;
-use kb_reply::LaneReply;
 use kb_sharing::SharedMap;
-use kb_valid::Valid;
 use std::alloc::Global;
 
 impl Machine {

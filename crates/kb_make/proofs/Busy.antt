@@ -1,7 +1,7 @@
 -- What a lane has that takes a command, and what it is yet to do.
 use Rattle.std.proofs.Common.{◌≡◌, List, ap₂}
 use Rattle.kb_machine.specs.Machines.{MachineValue}
-use Rattle.kb_works.specs.declared.work.Work.{Work}
+use Rattle.kb_lane.specs.declared.work.Work.{Work}
 use Rattle.kb_make.specs.Makes.{Busy}
 
 -- both parts are the same

@@ -4,12 +4,12 @@ use Rattle.std.proofs.Common.{ap₂, subst, ◌∙◌}
 use Rattle.kb_days.specs.Dates.{january}
 use Rattle.kb_catalog_text.specs.declared.fault.TextFault.{TextFault}
 use Rattle.kb_catalog_text.specs.Texts.{CatalogText, OverdueText, catalog_read, overdue_read}
-use Rattle.kb_log.specs.Entries.{Entry}
+use Rattle.kb_codec.specs.Entries.{Entry}
 use Rattle.kb_machine.specs.Machines.{MachineValue}
 use Rattle.kb_machine.specs.Histories.{replay}
-use Rattle.kb_founding.specs.Foundings.{first_commands}
-use Rattle.kb_generator.specs.Seeds.{commands_of}
-use Rattle.kb_totals.specs.Totals.{totals_of}
+use Rattle.kb_folder.specs.Foundings.{first_commands}
+use Rattle.kb_make.specs.Seeds.{commands_of}
+use Rattle.kb_make.specs.Totals.{totals_of}
 use Rattle.kb_make.specs.Makes.{Busy, IsDoneWith, Makes, Sends, done_times, first_done, is_refused}
 use Rattle.kb_make.specs.Summaries.{IsSummary, summary_text}
 

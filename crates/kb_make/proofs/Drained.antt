@@ -7,16 +7,16 @@ use Rattle.kb_gateway.specs.declared.told.Call.{Call}
 use Rattle.kb_gateway.specs.declared.told.Saying.{Saying}
 use Rattle.kb_gateway.specs.declared.told.Told.{Told}
 use Rattle.kb_gateway.specs.declared.told.Told.TheVariants.{Processed}
-use Rattle.kb_commands.specs.declared.command.Command.{Command}
-use Rattle.kb_log.specs.Logs.{LogValue}
+use Rattle.kb_codec.specs.declared.command.Command.{Command}
+use Rattle.kb_lane.specs.Logs.{LogValue}
 use Rattle.kb_machine.specs.Histories.{replay}
-use Rattle.kb_reply.specs.declared.step.Step.TheVariants as steps
-use Rattle.kb_works.specs.declared.work.Work.{Work}
-use Rattle.kb_works.specs.declared.work.Work.TheVariants.{Ask, Check}
+use Rattle.kb_book.specs.declared.step.Step.TheVariants as steps
+use Rattle.kb_lane.specs.declared.work.Work.{Work}
+use Rattle.kb_lane.specs.declared.work.Work.TheVariants.{Ask, Check}
 use Rattle.kb_lane.specs.Lanes.{LaneValue, machine_of}
-use Rattle.kb_works.specs.Orders.{settled_by}
+use Rattle.kb_lane.specs.Orders.{settled_by}
 use Rattle.kb_lane.specs.Draining.{due_of, with_outbox, Accepts, Looks}
-use Rattle.kb_bills.specs.Drains.{Drains, EndsAfter, Handles, HandlesFront}
+use Rattle.kb_lane.specs.Drains.{Drains, EndsAfter, Handles, HandlesFront}
 use Rattle.kb_machine.proofs.Replays.{replay_more}
 use Rattle.kb_make.specs.Makes.{IsDoneWith, accepted_if, done_times, first_done}
 use Rattle.kb_make.specs.Private.Sayings.{saying_of}

@@ -4,10 +4,10 @@ use Rattle.kb_days.specs.Dates.{january}
 use Rattle.kb_catalog_text.specs.Texts.{CatalogText, OverdueText}
 use Rattle.kb_machine.specs.Machines.{MachineValue}
 use Rattle.kb_machine.specs.Histories.{replay}
-use Rattle.kb_founding.specs.Foundings.{first_commands}
-use Rattle.kb_generator.specs.Seeds.{commands_of}
-use Rattle.kb_totals.specs.declared.totals.Totals.{Totals}
-use Rattle.kb_totals.specs.Totals.{totals_of}
+use Rattle.kb_folder.specs.Foundings.{first_commands}
+use Rattle.kb_make.specs.Seeds.{commands_of}
+use Rattle.kb_make.specs.declared.totals.Totals.{Totals}
+use Rattle.kb_make.specs.Totals.{totals_of}
 use Rattle.kb_make.specs.Makes.{Sends}
 use Rattle.kb_make.specs.Summaries.{IsSummary, summary_text}
 use Rattle.kb_make.specs.Private.ShopTexts.{AreShopTexts}

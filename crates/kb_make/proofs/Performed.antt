@@ -1,16 +1,16 @@
 -- What the performing of a command leaves, by its reply.
 use Rattle.std.proofs.Common.{◌≡◌, ℕ, Bool, true, false, true≢false, ◌&&◌, List, [], ◌++◌, if◌then◌else◌}
 use Rattle.std.proofs.Common.{is_some, IfOk, OnOk, refl, sym, ap, ap₂, ◌∙◌}
-use Rattle.kb_commands.specs.declared.command.Command.{Command}
-use Rattle.kb_reply.specs.declared.reply.LaneReply.{LaneReply}
-use Rattle.kb_reply.specs.declared.reply.LaneReply.TheVariants as replies
+use Rattle.kb_codec.specs.declared.command.Command.{Command}
+use Rattle.kb_book.specs.declared.reply.LaneReply.{LaneReply}
+use Rattle.kb_book.specs.declared.reply.LaneReply.TheVariants as replies
 use Rattle.kb_machine.specs.Judged.{Judged, New, Again, Refused, after_judged, is_new, refusal_in}
 use Rattle.kb_machine.specs.Machines.{MachineValue, judged, reply_of}
 use Rattle.kb_machine.specs.Histories.{replay}
-use Rattle.kb_works.specs.declared.work.Work.{Work}
+use Rattle.kb_lane.specs.declared.work.Work.{Work}
 use Rattle.kb_lane.specs.Lanes.{LaneValue, machine_of}
 use Rattle.kb_lane.specs.Replies.{IsReply, Takes, is_accepted, is_taken}
-use Rattle.kb_works.specs.Works.{work_of}
+use Rattle.kb_lane.specs.Outbox.{work_of}
 use Rattle.kb_machine.proofs.Replays.{replay_more}
 use Rattle.kb_lane.proofs.SaidReplies.{Accepts, judged_accepts}
 use Rattle.kb_make.specs.Makes.{is_refused, sent}

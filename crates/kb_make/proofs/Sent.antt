@@ -2,12 +2,13 @@
 use Rattle.std.proofs.Common.{◌≡◌, ℕ, ◌+◌, Bool, true, false, true≢false, List, [], ◌∷◌, if◌then◌else◌, ◌≤◌}
 use Rattle.std.proofs.Common.{zero-add, refl, sym, ap, subst, ◌∙◌, arith}
 use mir.Val.{bool_byte}
-use Rattle.kb_commands.specs.declared.command.Command.{Command}
-use Rattle.kb_commands.specs.declared.command.Command.TheVariants as kinds
-use Rattle.kb_generator.specs.SeedCommands.{is_seeded}
-use Rattle.kb_log.specs.Entries.{Entry}
-use Rattle.kb_machine.specs.Machines.{MachineValue, is_callers, is_text}
-use Rattle.kb_works.specs.Works.{work_of}
+use Rattle.kb_codec.specs.declared.command.Command.{Command}
+use Rattle.kb_codec.specs.declared.command.Command.TheVariants as kinds
+use Rattle.kb_make.specs.SeedCommands.{is_seeded}
+use Rattle.kb_codec.specs.Entries.{Entry}
+use Rattle.kb_machine.specs.Machines.{MachineValue}
+use Rattle.kb_codec.specs.Senders.{is_callers, is_text}
+use Rattle.kb_lane.specs.Outbox.{work_of}
 use Rattle.kb_make.specs.Makes.{IsDoneWith, Sends, is_refused, sent}
 use Rattle.kb_make.specs.Private.Sending.{Completes}
 

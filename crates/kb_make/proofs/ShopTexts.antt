@@ -1,10 +1,10 @@
 -- The texts of the shop, as a lane has them.
 use Rattle.std.proofs.Common.{◌≡◌, ℕ, Some, Result, Ok, Err, OnOk, ap, ◌∙◌}
-use Rattle.kb_shop.specs.Shops.{shop_catalog, shop_overdue}
+use Rattle.kb_catalog_text.specs.Shops.{shop_catalog, shop_overdue}
 use Rattle.kb_catalog_text.specs.Texts.{CatalogText, OverdueText}
 use Rattle.kb_machine.specs.Machines.{MachineValue, no_machine}
 use Rattle.kb_machine.specs.Histories.{entry_after, replay}
-use Rattle.kb_founding.specs.Foundings.{AreTextsOf, catalog_command, first_commands, overdue_command}
+use Rattle.kb_folder.specs.Foundings.{AreTextsOf, catalog_command, first_commands, overdue_command}
 use Rattle.kb_make.specs.Private.ShopTexts.{AreShopTexts, IsShopCatalog, IsShopOverdue}
 
 pub are_both : (catalog : CatalogText) (overdue : OverdueText) → IsShopCatalog catalog → IsShopOverdue overdue

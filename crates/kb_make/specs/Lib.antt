@@ -1,3 +1,10 @@
+pub mod Draws
 pub mod Makes
-pub mod Summaries
+pub mod MonthDays
+pub mod NumberedNames
 pub mod Private
+pub mod SeedCommands
+pub mod Seeds
+pub mod SmallTotals
+pub mod Summaries
+pub mod Totals

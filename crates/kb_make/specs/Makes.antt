@@ -2,21 +2,21 @@
 use Rattle.std.specs.Prelude.{ℕ, zero, suc, ◌+◌, ◌≡◌, Bool, List, [], ◌∷◌, ◌++◌, Option, None, Some, is_some}
 use Rattle.std.specs.Prelude.{Ok, if◌then◌else◌}
 use Rattle.kb_days.specs.Dates.{january}
-use Rattle.kb_shop.specs.Shops.{shop_catalog, shop_overdue}
+use Rattle.kb_catalog_text.specs.Shops.{shop_catalog, shop_overdue}
 use Rattle.kb_catalog_text.specs.Texts.{CatalogText, OverdueText}
-use Rattle.kb_commands.specs.declared.command.Command.{Command}
+use Rattle.kb_codec.specs.declared.command.Command.{Command}
 use Rattle.kb_gateway.specs.declared.told.Told.TheVariants.{Processed}
-use Rattle.kb_log.specs.Entries.{Entry}
+use Rattle.kb_codec.specs.Entries.{Entry}
 use Rattle.kb_machine.specs.Judged.{is_new, refusal_in}
 use Rattle.kb_machine.specs.Machines.{MachineValue, judged}
 use Rattle.kb_machine.specs.Histories.{entry_after, replay}
-use Rattle.kb_works.specs.declared.work.Work.{Work}
-use Rattle.kb_works.specs.declared.work.Work.TheVariants.{Ask, Check}
-use Rattle.kb_works.specs.Works.{work_of}
-use Rattle.kb_works.specs.Orders.{settled_by}
+use Rattle.kb_lane.specs.declared.work.Work.{Work}
+use Rattle.kb_lane.specs.declared.work.Work.TheVariants.{Ask, Check}
+use Rattle.kb_lane.specs.Outbox.{work_of}
+use Rattle.kb_lane.specs.Orders.{settled_by}
 use Rattle.kb_lane.specs.Draining.{due_of}
-use Rattle.kb_founding.specs.Foundings.{AreTextsOf, first_commands}
-use Rattle.kb_generator.specs.Seeds.{commands_of}
+use Rattle.kb_folder.specs.Foundings.{AreTextsOf, first_commands}
+use Rattle.kb_make.specs.Seeds.{commands_of}
 
 -- accounts and texts, and what is yet to do for them
 pub record Busy : Type 0 where

@@ -3,8 +3,8 @@ use Rattle.std.specs.Prelude.{ℕ, ◌≡◌, pos, List, [], ◌∷◌, ◌++◌
 use Rattle.std.specs.Fmt.{signed_decimal, digits}
 use Rattle.kb_base.specs.Lines.{line_feed}
 use Rattle.kb_machine.specs.Machines.{MachineValue}
-use Rattle.kb_totals.specs.declared.totals.Totals.{Totals}
-use Rattle.kb_totals.specs.Totals.{totals_of}
+use Rattle.kb_make.specs.declared.totals.Totals.{Totals}
+use Rattle.kb_make.specs.Totals.{totals_of}
 use Rattle.kb_make.specs.Makes.{Makes}
 
 -- its text: what all accounts add up to, and how many commands were refused

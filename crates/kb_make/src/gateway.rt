@@ -3,9 +3,8 @@ ghost use Rattle.std.specs.Prelude.{◌≡◌, ◌++◌, ◌∷◌, [], None, So
 ghost use Rattle.kb_gateway.specs.Answers.{asked_of};
 ghost use Rattle.kb_make.specs.Private.Sayings.{saying_of};
 
-use kb_base::Failed;
+use kb_base::{Failed, History};
 use kb_gateway::{Asked, Call, Gateway, Order, Seen, Told};
-use kb_history::History;
 use std::marker::Model;
 
 /// A gateway that takes each payment at once, and never fails. Contracts see it as the calls that it heard,

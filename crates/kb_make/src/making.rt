@@ -2,12 +2,12 @@
 ghost use Rattle.std.specs.Prelude.{◌≤◌, ◌<◌, ◌^◌, IfOk};
 ghost use Rattle.kb_make.specs.Summaries.{IsSummary};
 
+use crate::generator::Generator;
 use crate::opening::shop_lane;
 use crate::sending::send_all;
 use crate::summary::summary_text;
+use crate::totals::Totals;
 use kb_base::NoMemory;
-use kb_generator::Generator;
-use kb_totals::Totals;
 use std::alloc::Global;
 
 /// The summary of what the commands of a seed make, for so many accounts and months, with its line feed. A

@@ -2,21 +2,21 @@
 ghost use Rattle.std.specs.Prelude.{◌≡◌, [], true, IfOk, OnOk};
 ghost use Rattle.kb_days.specs.Dates.{january};
 ghost use Rattle.kb_catalog_text.specs.Texts.{CatalogText, OverdueText};
-ghost use Rattle.kb_machine.specs.Machines.{no_machine, is_text};
+ghost use Rattle.kb_machine.specs.Machines.{no_machine};
+ghost use Rattle.kb_codec.specs.Senders.{is_text};
 ghost use Rattle.kb_machine.specs.Histories.{entry_after, replay};
 ghost use Rattle.kb_lane.specs.Lanes.{machine_of};
-ghost use Rattle.kb_founding.specs.Foundings.{catalog_command, first_commands, first_key, overdue_command};
+ghost use Rattle.kb_folder.specs.Foundings.{catalog_command, first_commands, first_key, overdue_command};
 ghost use Rattle.kb_make.specs.Private.ShopTexts.{AreShopTexts, IsShopCatalog, IsShopOverdue};
 
 use crate::gateway::PaidAtOnce;
 use crate::sending::{MemoryLane, perform};
 use kb_base::NoMemory;
-use kb_catalog_text::{read, read_overdue};
-use kb_commands::{Catalog, Command, OverdueRules};
+use kb_catalog_text::{OVERDUE, SHOP, read, read_overdue};
+use kb_codec::{Catalog, Command, OverdueRules};
 use kb_days::{Day, Name};
 use kb_disk::MemoryDisk;
 use kb_lane::Lane;
-use kb_shop::{OVERDUE, SHOP};
 use std::alloc::Global;
 
 /// The first day on which a command of a seed may come: 2024-01-01.

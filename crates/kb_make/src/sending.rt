@@ -1,19 +1,18 @@
 //! Commands, sent to a lane one after another.
 ghost use Rattle.std.specs.Prelude.{◌≡◌, ◌<◌, ◌^◌, [], true, length, IfOk, OnOk};
-ghost use Rattle.kb_machine.specs.Machines.{is_callers};
+ghost use Rattle.kb_codec.specs.Senders.{is_callers};
 ghost use Rattle.kb_lane.specs.Lanes.{machine_of};
 ghost use Rattle.kb_make.specs.Makes.{IsDoneWith, Sends, is_refused, sent};
 ghost use Rattle.kb_make.specs.Private.Sending.{busy_of, told_refused};
 
 use crate::gateway::PaidAtOnce;
+use crate::generator::Generator;
 use kb_base::NoMemory;
-use kb_bills::drain;
-use kb_commands::Command;
+use kb_book::{LaneReply, Step};
+use kb_codec::Command;
 use kb_days::Day;
 use kb_disk::MemoryDisk;
-use kb_generator::Generator;
-use kb_lane::Lane;
-use kb_reply::{LaneReply, Step};
+use kb_lane::{Lane, drain};
 use std::alloc::Global;
 
 /// A lane in memory whose gateway takes each payment.

@@ -4,9 +4,8 @@ ghost use Rattle.std.specs.Fmt.{signed_decimal};
 ghost use Rattle.kb_make.specs.Summaries.{summary_text};
 ghost use Rattle.kb_make.specs.Private.Lines.{counts_text, sums_text, balances_text};
 
-use kb_base::NoMemory;
-use kb_digits::push;
-use kb_totals::Totals;
+use crate::totals::Totals;
+use kb_base::{NoMemory, push};
 use std::alloc::Global;
 
 /// What all accounts add up to, and how many commands were refused, as a line.
@@ -56,7 +55,7 @@ fn push_count(text: &mut Vec<u8>, word: &[u8], count: u64) -> Result<(), NoMemor
     ensures { OnOk result (text.new.items ≡ text.old.items ++ (word.now ++ decimal count)) }
 {
     push(text, word)?;
-    kb_digits::push_count(text, count)
+    kb_base::push_count(text, count)
 }
 
 /// Adds a word, and a sum in minor units.
@@ -64,5 +63,5 @@ fn push_sum(text: &mut Vec<u8>, word: &[u8], sum: i128) -> Result<(), NoMemory>
     ensures { OnOk result (text.new.items ≡ text.old.items ++ (word.now ++ signed_decimal sum)) }
 {
     push(text, word)?;
-    kb_digits::push_sum(text, sum)
+    kb_base::push_sum(text, sum)
 }

@@ -3,7 +3,7 @@ ghost use Rattle.std.specs.Prelude.{◌≡◌, ◌≤◌, ◌-◌, ◌+◌, ℕ}
 ghost use Rattle.kb_money.specs.declared.minor.TheConstants.{MAX_MINOR};
 ghost use Rattle.kb_money.specs.Proration.{cum, cost};
 
-use crate::Minor;
+use crate::minor::Minor;
 
 /// The most days that a period may have: two years.
 pub const MAX_DAYS: u32 = 731;

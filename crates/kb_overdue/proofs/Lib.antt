@@ -1,4 +1,4 @@
-pub mod KeptRules
-pub mod ToldFaults
 pub mod FoundPlaces
+pub mod KeptRules
 pub mod TakenStates
+pub mod ToldFaults

@@ -1,3 +1,3 @@
-pub mod Thresholds
 pub mod ConfigRules
 pub mod OverdueDays
+pub mod Thresholds

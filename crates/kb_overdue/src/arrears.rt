@@ -6,7 +6,8 @@ ghost use Rattle.kb_overdue.specs.ConfigRules.{max_states};
 ghost use Rattle.kb_overdue.specs.OverdueDays.{is_met, days_since, is_reached, is_reached_at, first_reached};
 ghost use Rattle.kb_overdue.specs.OverdueDays.{state_on, Holds};
 
-use crate::{Config, OverdueState, Threshold};
+use crate::config::Config;
+use crate::state::{OverdueState, Threshold};
 use kb_days::Day;
 
 /// What an account owes, as its invoices say on some day.

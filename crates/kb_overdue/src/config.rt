@@ -6,7 +6,7 @@ ghost use Rattle.kb_overdue.specs.declared.config.ConfigRule.TheVariants.{Names,
 ghost use Rattle.kb_overdue.specs.ConfigRules.{max_states, has_name_of, is_unconditional, is_broken_at};
 ghost use Rattle.kb_overdue.specs.ConfigRules.{first_offender, fault_of, rule_number, AreStates};
 
-use crate::OverdueState;
+use crate::state::OverdueState;
 use kb_base::Seq;
 use std::marker::Model;
 use thiserror::Error;

@@ -1,6 +1,6 @@
 pub mod Attempts
-pub mod PaymentSums
 pub mod PaymentEdits
-pub mod SoundPayments
-pub mod SmallPayments
+pub mod PaymentSums
 pub mod Private
+pub mod SmallPayments
+pub mod SoundPayments

@@ -1,4 +1,4 @@
-pub mod KeptSums
 pub mod GivenBack
-pub mod LentEntries
 pub mod KeptAttempts
+pub mod KeptSums
+pub mod LentEntries

@@ -2,7 +2,7 @@
 ghost use Rattle.std.specs.Prelude.{◌≡◌, IfOk};
 ghost use Rattle.std.specs.FinMap as map;
 
-use crate::{Attempt, Kind, Status};
+use crate::attempt::{Attempt, Kind, Status};
 use kb_base::NoMemory;
 use kb_days::{Day, Name};
 use kb_sharing::SharedMap;

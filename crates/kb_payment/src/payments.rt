@@ -16,9 +16,10 @@ mod kept;
 mod purchase;
 mod settlement;
 
+use crate::attempt::{Attempt, Kind, Status};
+use crate::fault::PayFault;
 use crate::kept_attempt::KeptAttempt;
 use crate::on_invoice::OnInvoice;
-use crate::{Attempt, Kind, PayFault, Status};
 use kb_base::NoMemory;
 use kb_days::{Day, Name};
 use kb_sharing::SharedMap;

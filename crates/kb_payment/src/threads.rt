@@ -1,6 +1,6 @@
 //! Payments among threads: the check proves here that threads may hand them on, and lend them to each other.
 
-use crate::Payments;
+use crate::payments::Payments;
 
 /// Payments are among the values that threads may share.
 fn payments_are_shared(payments: &Payments) {

@@ -1,1 +1,4 @@
+pub mod Doors
 pub mod Memory
+pub mod NamedDays
+pub mod Pairs

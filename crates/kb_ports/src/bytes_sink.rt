@@ -1,13 +1,12 @@
 //! A sink in memory.
-ghost use Rattle.std.specs.Prelude.{◌≡◌, ◌≤◌, ◌<◌, ◌++◌, length};
-ghost use Rattle.std.specs.Prelude.{Some, IsErr, IsTrue, IfOk, OnErr, OnOk};
+ghost use Rattle.std.specs.Prelude.{◌≡◌, ◌≤◌, ◌<◌, ◌++◌, length, Some, IsErr, IsTrue, IfOk, OnErr, OnOk};
 ghost use Rattle.std.specs.Io.{WritesAtMost};
 ghost use Rattle.std.specs.Io.KnownBytes.{WriteAppends};
 ghost use Rattle.kb_base.specs.Faults.{HasCause};
 ghost use Rattle.kb_ports.specs.Memory.{uncalled, fails_next, after_fault, after_call};
 
-use crate::Sink;
 use crate::calls::Calls;
+use crate::sink::Sink;
 use kb_base::Failed;
 use std::marker::Model;
 

@@ -6,8 +6,8 @@ ghost use Rattle.std.specs.Io.KnownBytes.{ReadConsumes};
 ghost use Rattle.kb_base.specs.Faults.{HasCause};
 ghost use Rattle.kb_ports.specs.Memory.{uncalled, fails_next, after_fault, after_call};
 
-use crate::Source;
 use crate::calls::Calls;
+use crate::source::Source;
 use kb_base::Failed;
 use std::marker::Model;
 

@@ -1,7 +1,8 @@
 //! A source or a sink that moves few bytes a call.
 ghost use Rattle.std.specs.Prelude.{◌≤◌};
 
-use crate::{Sink, Source};
+use crate::sink::Sink;
+use crate::source::Source;
 use kb_base::Failed;
 
 /// A source or a sink of which a call moves at most so many bytes.

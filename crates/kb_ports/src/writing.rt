@@ -4,7 +4,7 @@ ghost use Rattle.std.specs.Io.KnownBytes.{Appends};
 ghost use Rattle.kb_base.specs.Faults.{HasCause};
 ghost use Rattle.kb_base.specs.Stream.{Writes};
 
-use crate::Sink;
+use crate::sink::Sink;
 use kb_base::Failed;
 
 /// Writes all the bytes, in as many calls as it takes. A fault leaves a first part of them written.

@@ -1,3 +1,3 @@
-pub mod ReportLines
 pub mod Listings
 pub mod Private
+pub mod ReportLines

@@ -1,4 +1,5 @@
--- What only private contracts and proofs cite.
-pub mod Fields
 pub mod Collecting
+pub mod Fields
 pub mod Parts
+
+-- What only private contracts and proofs cite.

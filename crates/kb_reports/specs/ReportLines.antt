@@ -13,7 +13,7 @@ use Rattle.kb_book.specs.Books.{BookValue}
 use Rattle.kb_account.specs.declared.view.sums.Sums.{Sums}
 use Rattle.kb_account.specs.declared.view.states.StateRow.{StateRow}
 use Rattle.kb_account.specs.Sums.{sums_of, states_of}
-use Rattle.kb_say.specs.Words.{state_word}
+use Rattle.kb_json.specs.Words.{state_word}
 
 -- the byte between the fields of a line
 abbrev pub tab : ℕ

@@ -3,8 +3,8 @@ ghost use Rattle.std.specs.Prelude.{◌≡◌, ◌++◌, codes, unwrap_or, OnOk}
 ghost use Rattle.kb_reports.specs.ReportLines.{arrears_line, arrears_of};
 ghost use Rattle.kb_reports.specs.Private.Fields.{field_bytes};
 
-use crate::Report;
 use crate::line::{Field, push_line};
+use crate::report::Report;
 use kb_account::{Book, Sums, World};
 use kb_base::NoMemory;
 use kb_days::Name;

@@ -1,8 +1,8 @@
 //! `balances`: what each account was charged and has paid.
 ghost use Rattle.kb_reports.specs.ReportLines.{balances_of};
 
-use crate::Report;
 use crate::line::{Field, push_line};
+use crate::report::Report;
 use kb_account::{Book, World};
 use kb_base::NoMemory;
 use kb_days::Name;

@@ -16,7 +16,5 @@ mod states;
 
 pub use arrears::Arrears;
 pub use balances::Balances;
-pub use listed::Listed;
 pub use printing::{Unprinted, print};
-pub use report::Report;
 pub use states::States;

@@ -3,9 +3,8 @@ ghost use Rattle.std.specs.Prelude.{◌≡◌, ◌∷◌, ◌++◌, map, OnOk};
 ghost use Rattle.kb_reports.specs.ReportLines.{tab, line_of};
 ghost use Rattle.kb_reports.specs.Private.Fields.{field_bytes};
 
-use kb_base::NoMemory;
+use kb_base::{NoMemory, push, push_count, push_sum};
 use kb_days::{Day, Name, text};
-use kb_digits::{push, push_count, push_sum};
 
 /// A field of a line, behind the account.
 #[derive(Clone, Copy)]

@@ -7,8 +7,8 @@ ghost use Rattle.kb_reports.specs.declared.printing.Unprinted.TheVariants as unp
 ghost use Rattle.kb_reports.specs.Listings.{Prints, PrintsPart, of_lane, of_listed, report_text};
 ghost use Rattle.kb_reports.specs.Private.Parts.{WritesPart};
 
-use crate::Report;
 use crate::listed::{Listed, listing};
+use crate::report::Report;
 use kb_base::NoMemory;
 use kb_days::Name;
 use kb_disk::Disk;

@@ -2,12 +2,12 @@
 ghost use Rattle.std.specs.Prelude.{◌≡◌, ◌++◌, OnOk};
 ghost use Rattle.kb_reports.specs.ReportLines.{states_line, states_lines, states_on};
 
-use crate::Report;
 use crate::line::{Field, push_line};
+use crate::report::Report;
 use kb_account::{Book, StateRow, World};
 use kb_base::NoMemory;
 use kb_days::{Day, Name};
-use kb_say::state_word;
+use kb_json::state_word;
 use std::alloc::Global;
 
 /// Of each subscription of each account, its bundle, its name, and how it stands on a day.

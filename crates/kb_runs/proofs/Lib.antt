@@ -1,2 +1,4 @@
-mod Files
-mod Insides
+pub mod Among
+pub mod OnlyRuns
+pub mod Told
+pub mod Transferred

@@ -1,1 +1,4 @@
-pub mod Insides
+pub mod Endings
+pub mod Private
+pub mod Reading
+pub mod Statuses

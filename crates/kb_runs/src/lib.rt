@@ -1,18 +1,22 @@
-//! Runs of the program on shops in memory: what its rows stand on.
+//! A machine over the lines of a source, whose answers go to a sink, and how a run of the program ends.
 //!
-//! A shop is a vault with the texts of kb_samples, and its gateways do what a script says. A run that ends
-//! otherwise than a row says is a fault that names it. Nothing that ships uses it.
+//! The rule kept here: however the input is cut into chunks, its lines are answered one after another, and
+//! what was answered is written, also where the run is stopped. Each stop has one cause, a status, and a line
+//! that tells it, which is the last one written; where the output fails, no more is written, and the status
+//! says so. Layers above bring the machine, and hand every result of a run to `close`.
 #![tactic(auto)]
 
-mod holding;
-mod runs;
-mod script;
-mod shops;
+mod closing;
+mod last_lines;
+mod line_machine;
+mod reading;
+mod run_stop;
+mod stop;
+mod taking;
 
-pub use holding::{ACCOUNT, hold_account, hold_end, hold_run, hold_words};
-pub use runs::{APPLY, make_lanes, run, run_between};
-pub use script::{SILENT, Script};
-pub use shops::{
-    bytes_in, empty_vault, failing_market, laneless, market_behind, market_of, vault_of_two,
-    vault_on,
-};
+pub use closing::close;
+pub use line_machine::LineMachine;
+pub use reading::{MAX_INPUT, run_lines};
+pub use run_stop::RunStop;
+pub use stop::Stop;
+pub use taking::MAX_LINE;

@@ -1,7 +1,8 @@
 //! Accounts, told in steps.
 
+use crate::fault::SampleFault;
 use crate::read::{day, name};
-use crate::{Anchor, SampleFault, Step};
+use crate::step::{Anchor, Step};
 use kb_blocking::{BlockState, Blocks, Flags, Scope};
 use kb_catalog::Catalog;
 use kb_days::Day;

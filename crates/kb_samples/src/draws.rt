@@ -1,8 +1,10 @@
 //! Accounts whose steps are drawn.
 ghost use Rattle.std.specs.Prelude.{◌<◌, ◌≤◌, ◌+◌};
 
-use crate::Step::{Block, Cancel, Change, Create};
-use crate::{Account, Anchor, SampleFault, Step};
+use crate::account::Account;
+use crate::fault::SampleFault;
+use crate::step::Step::{Block, Cancel, Change, Create};
+use crate::step::{Anchor, Step};
 use kb_blocking::Scope;
 use kb_catalog::Catalog;
 use kb_timeline::EditFault;

@@ -1,11 +1,10 @@
 //! Texts and numbers, taken for what they stand for.
 
-use crate::SampleFault;
-use kb_catalog::{AddFault, Catalog};
+use crate::fault::SampleFault;
+use kb_catalog::{AddFault, Catalog, Valid};
 use kb_catalog_text::TextFault;
 use kb_days::{Bcd, Day, Name, Reach};
 use kb_money::Currency;
-use kb_valid::Valid;
 use std::alloc::Global;
 
 /// The catalog of some texts, a version each.

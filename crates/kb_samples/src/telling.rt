@@ -1,6 +1,6 @@
 //! What is told of texts that are read, and of changed ones; and lines of JSON.
 
-use crate::SampleFault;
+use crate::fault::SampleFault;
 use kb_catalog_text::{CheckedOverdue, TextFault, read, read_overdue};
 use std::alloc::Global;
 

@@ -1,6 +1,5 @@
 -- Entries in order have different keys.
-use Rattle.std.proofs.Common.{ℕ, suc, ◌≡◌, arith, List, [], ◌∷◌, map, All, AllPairs, T, sym, ap}
-use Rattle.std.proofs.Common.{subst, ◌∙◌}
+use Rattle.std.proofs.Common.{ℕ, suc, ◌≡◌, arith, List, [], ◌∷◌, map, All, AllPairs, T, sym, ap, subst, ◌∙◌}
 use Rattle.std.proofs.lemmas.List.Elements.{All-nil, All-cons, All-map}
 use Rattle.std.proofs.lemmas.List.Kept.{AllPairs-cons}
 use Rattle.std.specs.Ordering.{is_lt}

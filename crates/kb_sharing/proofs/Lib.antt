@@ -1,6 +1,10 @@
 pub mod ApartKeys
+pub mod ChunkPlaces
+pub mod ChunkedLists
 pub mod EntrySums
 pub mod MemberSums
+pub mod Places
 pub mod SplitEntries
 pub mod TreeMaps
+pub mod TreeSizes
 pub mod Turns

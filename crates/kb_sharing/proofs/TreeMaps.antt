@@ -1,7 +1,6 @@
 -- What the way down a tree finds is what the map of the tree's entries says, where those are in order.
-use Rattle.std.proofs.Common.{ℕ, ◌≡◌, ◌+◌, true, false, List, [], ◌∷◌, ◌++◌, Some}
-use Rattle.std.proofs.Common.{if◌then◌else◌, cond, length, refl, sym}
-use Rattle.std.proofs.Common.{ap, ◌∙◌, T, is_some}
+use Rattle.std.proofs.Common.{ℕ, ◌≡◌, ◌+◌, true, false, List, [], ◌∷◌, ◌++◌, Some, if◌then◌else◌, cond}
+use Rattle.std.proofs.Common.{length, refl, sym, ap, ◌∙◌, T, is_some}
 use Rattle.std.specs.declared.cmp.Ordering.TheVariants.{Less, Equal, Greater}
 use Rattle.std.specs.Ordering.{is_lt}
 use Rattle.std.specs.Cmp.{IsTotalOrder}

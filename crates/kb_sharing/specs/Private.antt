@@ -1,2 +1,5 @@
--- What only private contracts and proofs cite.
+pub mod Chunks
 pub mod Nodes
+pub mod Trees
+
+-- What only private contracts and proofs cite.

@@ -6,7 +6,7 @@ ghost use Rattle.kb_sharing.specs.Keys.{first_behind};
 mod growth;
 mod tree;
 
-use crate::Key;
+use crate::key::Key;
 use growth::{len_with, tree_with};
 use kb_base::NoMemory;
 use std::alloc::Global;

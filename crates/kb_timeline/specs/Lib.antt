@@ -1,4 +1,4 @@
 pub mod EntryDays
+pub mod SmallTimeline
 pub mod SubscriptionEdits
 pub mod TimelineEdits
-pub mod SmallTimeline

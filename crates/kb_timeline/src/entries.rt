@@ -7,7 +7,8 @@ ghost use Rattle.kb_timeline.specs.declared.entry.Entry.{Entry};
 ghost use Rattle.kb_timeline.specs.EntryDays.{max_entries, IsEntries, entry_on, is_before_start};
 ghost use Rattle.kb_timeline.specs.EntryDays.{kept_by_change, with_change};
 
-use crate::{EditFault, Entry, Limit};
+use crate::edit_fault::{EditFault, Limit};
+use crate::entry::Entry;
 use kb_base::{NoMemory, Seq};
 use kb_days::{Day, Reach};
 use std::alloc::Global;

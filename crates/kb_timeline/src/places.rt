@@ -5,7 +5,7 @@ ghost use Rattle.std.specs.Arc.{arc_value};
 ghost use Rattle.kb_timeline.specs.declared.subscription.Subscription.{Subscription};
 ghost use Rattle.kb_timeline.specs.TimelineEdits.{max_subscriptions};
 
-use crate::Subscription;
+use crate::subscription::Subscription;
 use kb_days::Name;
 use std::sync::Arc;
 

@@ -3,7 +3,7 @@ ghost use Rattle.std.specs.Prelude.{◌≡◌, ◌<◌, ◌++◌, ◌∷◌, [],
 ghost use Rattle.std.specs.Arc.{arc_value};
 ghost use Rattle.kb_timeline.specs.TimelineEdits.{with_name, edited_at};
 
-use crate::Subscription;
+use crate::subscription::Subscription;
 use kb_base::{NoMemory, Seq, shared};
 use kb_days::Name;
 use std::alloc::Global;

@@ -3,7 +3,9 @@ ghost use Rattle.std.specs.Prelude.{◌≡◌, None, Err, IfOk, IfErr, IfSome};
 ghost use Rattle.kb_timeline.specs.SubscriptionEdits.{change_of, change_fault_of, cancel_of, cancel_fault_of};
 ghost use Rattle.kb_timeline.specs.SubscriptionEdits.{uncancel_of, uncancel_fault_of};
 
-use crate::{EditFault, Entries, Entry};
+use crate::edit_fault::EditFault;
+use crate::entries::Entries;
+use crate::entry::Entry;
 use kb_base::NoMemory;
 use kb_days::{Day, Name};
 use std::alloc::Global;

@@ -1,6 +1,6 @@
 //! Timelines among threads: the check proves here that threads may hand them on, and lend them to each other.
 
-use crate::Timeline;
+use crate::timeline::Timeline;
 
 /// A timeline is one of the values that threads may share.
 fn timelines_are_shared(timeline: &Timeline) {

@@ -12,9 +12,12 @@ ghost use Rattle.kb_timeline.specs.TimelineEdits.{created, create_fault, with_ed
 ghost use Rattle.kb_timeline.specs.TimelineEdits.{change_fault, cancelled, cancel_fault, uncancelled};
 ghost use Rattle.kb_timeline.specs.TimelineEdits.{uncancel_fault};
 
+use crate::edit_fault::{EditFault, Limit};
+use crate::entries::Entries;
+use crate::entry::Entry;
 use crate::places::{bundle_named, first_of, subscription_named};
 use crate::sharing::{same_names, with_another, with_name, with_subscription};
-use crate::{EditFault, Entries, Entry, Limit, Subscription};
+use crate::subscription::Subscription;
 use kb_base::Seq;
 use kb_days::{Day, Name, Reach};
 use std::alloc::Global;

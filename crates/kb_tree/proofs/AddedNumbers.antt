@@ -11,8 +11,7 @@ use Rattle.kb_due.specs.declared.cell.Cell.{Cell}
 use Rattle.kb_tree.specs.declared.item.NewItem.{NewItem}
 use Rattle.kb_tree.specs.declared.item.NewItem.TheVariants.{Bill, Repair}
 use Rattle.kb_tree.specs.Items.{Numbered, charges_on, numbered, item_cell, cell_at}
-use Rattle.kb_tree.specs.Repairs.{wrong_among, repair_of, bill_of, new_repairs, new_bills}
-use Rattle.kb_tree.specs.Repairs.{new_items}
+use Rattle.kb_tree.specs.Repairs.{wrong_among, repair_of, bill_of, new_repairs, new_bills, new_items}
 use Rattle.kb_tree.specs.Covers.{IsBelow}
 use Rattle.kb_tree.specs.Private.LeftCharges.{missing_runs}
 use Rattle.kb_tree.proofs.BelowNumbers.{charges_on-below, wrong_among-below}

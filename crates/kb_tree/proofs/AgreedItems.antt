@@ -1,6 +1,5 @@
 -- New items, and the charges that they leave, depend on the charges of the window's days alone.
-use Rattle.std.proofs.Common.{◌≡◌, ℕ, ◌+◌, ◌<◌, ◌≤◌, nat_eq, List, ◌++◌, length, map, Option}
-use Rattle.std.proofs.Common.{ap, ap₂}
+use Rattle.std.proofs.Common.{◌≡◌, ℕ, ◌+◌, ◌<◌, ◌≤◌, nat_eq, List, ◌++◌, length, map, Option, ap, ap₂}
 use Rattle.kb_base.specs.Runs.{values_on}
 use Rattle.kb_base.proofs.Windows.{runs-same-key}
 use Rattle.kb_due.specs.declared.cell.Cell.{Cell}

@@ -1,8 +1,7 @@
 -- The cells of bills by their numbers, once more bills are added.
-use Rattle.std.proofs.Common.{◌≡◌, ℕ, ◌+◌, ◌<◌, Bool, true, false, ◌==◌, cond, if◌then◌else◌, List, []}
-use Rattle.std.proofs.Common.{◌∷◌, ◌++◌, ◌&&◌, length, map, Option, Some, IsSome, All, refl, sym, ap, ◌∙◌}
-use Rattle.std.proofs.Common.{subst, drop}
-use Rattle.std.proofs.Common.{arith, inl, inr, append-nil}
+use Rattle.std.proofs.Common.{◌≡◌, ℕ, ◌+◌, ◌<◌, Bool, true, false, ◌==◌, cond, if◌then◌else◌, List, [], ◌∷◌}
+use Rattle.std.proofs.Common.{◌++◌, ◌&&◌, length, map, Option, Some, IsSome, All, refl, sym, ap, ◌∙◌, subst}
+use Rattle.std.proofs.Common.{drop, arith, inl, inr, append-nil}
 use Rattle.std.proofs.lemmas.Bool.{eqb-true, eq-eqb, ne_eqb, cond-true, cond-false, cases_Bool}
 use Rattle.std.proofs.lemmas.Cmp.{nat_list_cmp_total}
 use Rattle.std.proofs.lemmas.List.{append_assoc, drop_more}

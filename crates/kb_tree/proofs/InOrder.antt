@@ -2,8 +2,7 @@
 use Rattle.std.proofs.Common.{◌≡◌, ℕ, ◌<◌, ◌≤◌, ◌⊎◌, inl, inr, true, List, [], ◌∷◌, map}
 use Rattle.std.proofs.Common.{option_to_list, slice_get, refl, ap, ◌∙◌, subst, arith}
 use Rattle.std.proofs.lemmas.Bool.{cases_lt, and_from, and_left, and_right, le-leb, lt-ltb, lt-leb, le-ltb}
-use Rattle.std.proofs.lemmas.Bool.{cond-true}
-use Rattle.std.proofs.lemmas.Bool.{cond-false}
+use Rattle.std.proofs.lemmas.Bool.{cond-true, cond-false}
 use Rattle.kb_base.specs.Runs.{Stretch, has_day, values_on}
 use Rattle.kb_days.specs.Calendar.{end_of_days}
 use Rattle.kb_tree.specs.Covers.{AreInOrder}

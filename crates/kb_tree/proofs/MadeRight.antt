@@ -1,7 +1,6 @@
 -- What holds of a cover made right, and of the items that make it so.
-use Rattle.std.proofs.Common.{◌≡◌, ℕ, ◌+◌, ◌<◌, ◌≤◌, ◌⊎◌, inl, inr, false, List, [], ◌∷◌}
-use Rattle.std.proofs.Common.{◌++◌, map, length, nat_eq, Option, Some, IsSome, All, sym}
-use Rattle.std.proofs.Common.{ap, ap₂, ◌∙◌, subst, arith, pos, ◌+ℤ◌}
+use Rattle.std.proofs.Common.{◌≡◌, ℕ, ◌+◌, ◌<◌, ◌≤◌, ◌⊎◌, inl, inr, false, List, [], ◌∷◌, ◌++◌, map, length}
+use Rattle.std.proofs.Common.{nat_eq, Option, Some, IsSome, All, sym, ap, ap₂, ◌∙◌, subst, arith, pos, ◌+ℤ◌}
 use Rattle.std.proofs.lemmas.Bool.{cases_lt}
 use Rattle.std.proofs.lemmas.List.{append_assoc, length-append, length-map}
 use Rattle.std.proofs.lemmas.List.Elements.{All-nil, All-cons, All-head, All-tail, All-append, All-weaker}
@@ -25,8 +24,7 @@ use Rattle.kb_tree.proofs.CellMaps.{cell_of, with_cells-items, with_cells-above}
 use Rattle.kb_tree.proofs.CoverDays.{charges-known, charges-inside, charges-settled}
 use Rattle.kb_tree.proofs.AddedCharges.{charges_on-added, charges_on-outside}
 use Rattle.kb_tree.proofs.AddedNumbers.{RepairsBelow, numbered-append, numbered-below, new_items-below}
-use Rattle.kb_tree.proofs.AddedNumbers.{cell_at-repairs}
-use Rattle.kb_tree.proofs.AddedNumbers.{IsBelow-higher}
+use Rattle.kb_tree.proofs.AddedNumbers.{cell_at-repairs, IsBelow-higher}
 use Rattle.kb_tree.proofs.AgreedItems.{new_items-agree, charges_after-agree}
 use Rattle.kb_tree.proofs.SettledDays.{after-settled}
 use Rattle.kb_tree.proofs.UntouchedDays.{untouched, untouched_outside}

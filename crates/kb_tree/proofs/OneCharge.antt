@@ -1,6 +1,5 @@
 -- A settled day has one charge or none, and what that tells of what is wrong or missing on it.
-use Rattle.std.proofs.Common.{◌≡◌, ℕ, List, [], ◌∷◌, map, Option, Some, None, option_to_list}
-use Rattle.std.proofs.Common.{refl, ap}
+use Rattle.std.proofs.Common.{◌≡◌, ℕ, List, [], ◌∷◌, map, Option, Some, None, option_to_list, refl, ap}
 use Rattle.kb_due.specs.declared.cell.Cell.{Cell}
 use Rattle.kb_due.proofs.SameCells.{same_cell-same}
 use Rattle.kb_tree.specs.Items.{Charge}

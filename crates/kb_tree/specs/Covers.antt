@@ -1,6 +1,5 @@
 -- Covers: what each day is charged by, and the cells of all bills so far.
-use Rattle.std.specs.Prelude.{ℕ, ◌≡◌, ◌<◌, ◌≤◌, List, [], ◌∷◌, All, Option, Some, IsSome, slice_get}
-use Rattle.std.specs.Prelude.{refl}
+use Rattle.std.specs.Prelude.{ℕ, ◌≡◌, ◌<◌, ◌≤◌, List, [], ◌∷◌, All, Option, Some, IsSome, slice_get, refl}
 use Rattle.std.specs.FinMap as map
 use Rattle.kb_base.specs.Runs.{Stretch, values_on}
 use Rattle.kb_days.specs.Calendar.{first_day, end_of_days}

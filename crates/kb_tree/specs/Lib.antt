@@ -1,5 +1,9 @@
-pub mod Items
-pub mod Repairs
 pub mod Amounts
 pub mod Covers
+pub mod IssueValues
+pub mod Issues
+pub mod ItemLines
+pub mod Items
+pub mod Numbers
 pub mod Private
+pub mod Repairs

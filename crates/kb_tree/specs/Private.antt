@@ -1,6 +1,7 @@
--- What only private contracts and proofs cite.
+pub mod AfterCovers
 pub mod LeftCharges
 pub mod Rests
-pub mod Walks
-pub mod AfterCovers
 pub mod RisingBills
+pub mod Walks
+
+-- What only private contracts and proofs cite.

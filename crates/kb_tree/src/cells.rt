@@ -5,10 +5,10 @@ ghost use Rattle.std.specs.List.Sorted.{IsPartitionPoint};
 ghost use Rattle.kb_due.specs.declared.cell.Cell.{Cell};
 ghost use Rattle.kb_tree.specs.Private.RisingBills.{NumberedCell, IsRising, AreBelow};
 
-use crate::ItemNo;
+use crate::item::ItemNo;
 use kb_base::NoMemory;
 use kb_due::Cell;
-use kb_lists::SharedList;
+use kb_sharing::SharedList;
 use std::alloc::Global;
 use std::marker::Model;
 

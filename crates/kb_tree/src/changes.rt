@@ -8,9 +8,9 @@ ghost use Rattle.kb_tree.specs.Repairs.{wrong_among, missing_among};
 ghost use Rattle.kb_tree.specs.Covers.{AreInOrder, due_in};
 ghost use Rattle.kb_tree.specs.Private.Walks.{AreChanges};
 
-use crate::ItemNo;
 use crate::charging::{Charged, is_right, missing, wrong};
 use crate::days::{Days, push_run};
+use crate::item::ItemNo;
 use crate::walking::{earlier, end_of_days, first_charged, next_change, passed, value_at};
 use kb_base::NoMemory;
 use kb_days::Reach;

@@ -5,7 +5,7 @@ ghost use Rattle.kb_due.specs.CellStretches.{same_cell};
 ghost use Rattle.kb_tree.specs.Items as items;
 ghost use Rattle.kb_tree.specs.Repairs.{is_due, wrong_among, missing_among};
 
-use crate::ItemNo;
+use crate::item::ItemNo;
 use kb_due::Cell;
 use std::marker::Model;
 

@@ -1,7 +1,6 @@
 //! Covers.
 ghost use Rattle.std.specs.Prelude.{◌≡◌, ◌+◌, ◌+ℤ◌, ◌^◌, ◌≤◌, ◌<◌, ◌++◌, ℕ, List, All, pos, false, length};
-ghost use Rattle.std.specs.Prelude.{map};
-ghost use Rattle.std.specs.Prelude.{option_to_list, IfOk};
+ghost use Rattle.std.specs.Prelude.{map, option_to_list, IfOk};
 ghost use Rattle.std.specs.List.{list_any};
 ghost use Rattle.kb_days.specs.Calendar.{first_day, charged_days, end_of_days};
 ghost use Rattle.kb_due.specs.CellStretches.{stretch_of};
@@ -20,10 +19,11 @@ use crate::cells::Cells;
 use crate::changes::{Changes, changes_of};
 use crate::charging::Charged;
 use crate::days::Days;
+use crate::item::{ItemNo, NewItem};
 use crate::live::{billed_from, live_after};
 use crate::making::items_of;
+use crate::steps::Steps;
 use crate::walking::{left_at, value_at};
-use crate::{ItemNo, NewItem, Steps};
 use kb_base::{NoMemory, Seq};
 use kb_days::Reach;
 use kb_due::{Cell, Piece};

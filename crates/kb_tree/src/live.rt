@@ -6,9 +6,9 @@ ghost use Rattle.kb_tree.specs.Covers.{AreInOrder};
 ghost use Rattle.kb_tree.specs.Private.LeftCharges.{billed_from};
 ghost use Rattle.kb_tree.specs.Private.Walks.{same_charge, charge_after, charge_on};
 
-use crate::ItemNo;
 use crate::charging::Charged;
 use crate::days::{Days, push_run};
+use crate::item::ItemNo;
 use crate::walking::{earlier, end_of_days, first_charged, next_change, passed, value_at};
 use kb_base::NoMemory;
 use kb_due::Cell;

@@ -3,7 +3,7 @@ ghost use Rattle.std.specs.Prelude.{◌≡◌, ◌++◌, ◌∷◌, [], map, IfO
 ghost use Rattle.kb_tree.specs.Repairs.{repair_of, bill_of};
 
 use crate::days::Days;
-use crate::{ItemNo, NewItem};
+use crate::item::{ItemNo, NewItem};
 use kb_base::NoMemory;
 use kb_due::Cell;
 use std::alloc::Global;

@@ -1,17 +1,16 @@
 -- Options may stand in any order: two neighbours exchanged say the same.
 use Rattle.std.proofs.Common.{◌≡◌, Bool, true, false, not, ◌&&◌, ◌||◌, cond, if◌then◌else◌, List, [], ◌∷◌}
-use Rattle.std.proofs.Common.{◌++◌}
-use Rattle.std.proofs.Common.{Option, Some, None, is_some, refl, sym, ap, ap₂, ◌∙◌}
+use Rattle.std.proofs.Common.{◌++◌, Option, Some, None, is_some, refl, sym, ap, ap₂, ◌∙◌}
 use Rattle.std.specs.Prelude.{option_map, find}
 use Rattle.std.specs.List.{list_all, list_any}
 use Rattle.std.proofs.lemmas.Slice.Eq.{bytes_eq-Decides}
 use Rattle.std.proofs.lemmas.Bool.{and_parts}
-use Rattle.kb_options.specs.declared.verb.Verb.{Verb}
-use Rattle.kb_options.specs.declared.setting.Setting.{Setting}
-use Rattle.kb_options.specs.declared.given.Given.{Given}
+use Rattle.kb_words.specs.declared.verb.Verb.{Verb}
+use Rattle.kb_words.specs.declared.setting.Setting.{Setting}
+use Rattle.kb_words.specs.declared.given.Given.{Given}
 use Rattle.kb_words.specs.declared.words.Words.{Words}
-use Rattle.kb_options.specs.Commands.{Text, may_be_missing, same_setting, setting_name, settings_of}
-use Rattle.kb_options.specs.Options.{are_options_of, is_among, is_settled, stand_once, value_of}
+use Rattle.kb_words.specs.Commands.{Text, may_be_missing, same_setting, setting_name, settings_of}
+use Rattle.kb_words.specs.Options.{are_options_of, is_among, is_settled, stand_once, value_of}
 use Rattle.kb_words.specs.Grammar.{words_with}
 use Rattle.kb_words.proofs.Reread.{command_words-same}
 

@@ -1,11 +1,11 @@
 -- What `clap` makes of each command's options in one order: nothing is wrong, and each has its value.
 use Rattle.std.proofs.Common.{◌≡◌, List, [], ◌∷◌, Option, Some, None, refl}
 use Rattle.clap.proofs.OnLiterals.{clap_on_literals}
-use Rattle.kb_options.specs.declared.verb.Verb.TheVariants.{Init, Apply, Bill, Serve, Report, Make}
-use Rattle.kb_options.specs.declared.setting.Setting.TheVariants.{Dir, Lanes, Catalog, Overdue, Gateway, Day}
-use Rattle.kb_options.specs.declared.setting.Setting.TheVariants.{Workers, Port, Bus, Connections, Kind, Seed}
-use Rattle.kb_options.specs.declared.setting.Setting.TheVariants.{Accounts, Months}
-use Rattle.kb_options.specs.Commands.{Text}
+use Rattle.kb_words.specs.declared.verb.Verb.TheVariants.{Init, Apply, Bill, Serve, Report, Make}
+use Rattle.kb_words.specs.declared.setting.Setting.TheVariants.{Dir, Lanes, Catalog, Overdue, Gateway, Day}
+use Rattle.kb_words.specs.declared.setting.Setting.TheVariants.{Workers, Port, Bus, Connections, Kind, Seed}
+use Rattle.kb_words.specs.declared.setting.Setting.TheVariants.{Accounts, Months}
+use Rattle.kb_words.specs.Commands.{Text}
 use Rattle.kb_words.specs.Private.Written.{spelled, written_before}
 use Rattle.kb_words.specs.Private.Parsed.{app_for, faults_of, parsed_value}
 

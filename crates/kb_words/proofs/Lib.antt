@@ -1,5 +1,7 @@
-pub mod Lines
-pub mod Parsing
-pub mod CommandLines
-pub mod Reread
 pub mod AnyOrder
+pub mod CommandLines
+pub mod Cuts
+pub mod Lines
+pub mod Numbers
+pub mod Parsing
+pub mod Reread

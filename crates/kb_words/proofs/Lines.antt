@@ -2,10 +2,10 @@
 use Rattle.std.proofs.Common.{◌≡◌, List, [], ◌∷◌, ◌++◌, Option, Some, None, refl, sym, ap, append_assoc}
 use Rattle.std.specs.Prelude.{option_map}
 use Rattle.std.proofs.lemmas.List.{append-nil}
-use Rattle.kb_options.specs.declared.setting.Setting.{Setting}
-use Rattle.kb_options.specs.declared.given.Given.{Given}
-use Rattle.kb_options.specs.Commands.{Text}
-use Rattle.kb_options.specs.Options.{Word, whole, opening, value, other, options_of}
+use Rattle.kb_words.specs.declared.setting.Setting.{Setting}
+use Rattle.kb_words.specs.declared.given.Given.{Given}
+use Rattle.kb_words.specs.Commands.{Text}
+use Rattle.kb_words.specs.Options.{Word, whole, opening, value, other, options_of}
 use Rattle.kb_words.specs.Private.Words.{options_with}
 
 -- options before others, one after the other

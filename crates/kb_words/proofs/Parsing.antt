@@ -10,10 +10,10 @@ use Rattle.clap.specs.declared.error.kind.ErrorKind.TheVariants.{OutOfMemory}
 use Rattle.clap.specs.declared.parser.matches.ArgMatches.{ArgMatches}
 use Rattle.clap.proofs.WalkLemmas.{first_value-rows}
 use Rattle.clap.proofs.OnLiterals.{clap_on_literals}
-use Rattle.kb_options.specs.declared.verb.Verb.{Verb}
-use Rattle.kb_options.specs.declared.verb.Verb.TheVariants.{Init, Apply, Bill, Serve, Report, Make}
-use Rattle.kb_options.specs.declared.setting.Setting.{Setting}
-use Rattle.kb_options.specs.Commands.{Text, setting_name}
+use Rattle.kb_words.specs.declared.verb.Verb.{Verb}
+use Rattle.kb_words.specs.declared.verb.Verb.TheVariants.{Init, Apply, Bill, Serve, Report, Make}
+use Rattle.kb_words.specs.declared.setting.Setting.{Setting}
+use Rattle.kb_words.specs.Commands.{Text, setting_name}
 use Rattle.kb_words.specs.Private.Parsed.{HasValues, app_for, app_with, faults_of, parsed_value, rule_for}
 
 -- `clap`'s words say what it makes of each command's words

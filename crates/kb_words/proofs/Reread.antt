@@ -1,22 +1,20 @@
 -- Options that are all there, written anew and given to `clap`, come back with their values.
-use Rattle.std.proofs.Common.{◌≡◌, true, ◌||◌, List, [], Option, Some, None, is_some, refl, sym, ap}
-use Rattle.std.proofs.Common.{◌∙◌}
+use Rattle.std.proofs.Common.{◌≡◌, true, ◌||◌, List, [], Option, Some, None, is_some, refl, sym, ap, ◌∙◌}
 use Rattle.std.specs.List.{list_all}
 use Rattle.std.proofs.lemmas.Bool.{and_parts}
-use Rattle.kb_options.specs.declared.verb.Verb.{Verb}
-use Rattle.kb_options.specs.declared.verb.Verb.TheVariants.{Init, Apply, Bill, Serve, Report, Make}
-use Rattle.kb_options.specs.declared.setting.Setting.{Setting}
-use Rattle.kb_options.specs.declared.setting.Setting.TheVariants.{Dir, Lanes, Catalog, Overdue, Gateway, Day}
-use Rattle.kb_options.specs.declared.setting.Setting.TheVariants.{Workers, Port, Bus, Connections, Kind, Seed}
-use Rattle.kb_options.specs.declared.setting.Setting.TheVariants.{Accounts, Months}
-use Rattle.kb_options.specs.Commands.{Text, may_be_missing, settings_of}
+use Rattle.kb_words.specs.declared.verb.Verb.{Verb}
+use Rattle.kb_words.specs.declared.verb.Verb.TheVariants.{Init, Apply, Bill, Serve, Report, Make}
+use Rattle.kb_words.specs.declared.setting.Setting.{Setting}
+use Rattle.kb_words.specs.declared.setting.Setting.TheVariants.{Dir, Lanes, Catalog, Overdue, Gateway, Day}
+use Rattle.kb_words.specs.declared.setting.Setting.TheVariants.{Workers, Port, Bus, Connections, Kind, Seed}
+use Rattle.kb_words.specs.declared.setting.Setting.TheVariants.{Accounts, Months}
+use Rattle.kb_words.specs.Commands.{Text, may_be_missing, settings_of}
 use Rattle.kb_words.specs.Grammar.{apply_words, bill_words, command_words, init_words, make_words}
-use Rattle.kb_words.specs.Grammar.{report_words}
-use Rattle.kb_words.specs.Grammar.{serve_words, words_with}
+use Rattle.kb_words.specs.Grammar.{report_words, serve_words, words_with}
 use Rattle.kb_words.specs.Private.Written.{written_of}
 use Rattle.kb_words.specs.Private.Parsed.{faults_of, parsed_value}
-use Rattle.kb_options.specs.Options.{are_options_of, value_of}
-use Rattle.kb_options.specs.declared.given.Given.{Given}
+use Rattle.kb_words.specs.Options.{are_options_of, value_of}
+use Rattle.kb_words.specs.declared.given.Given.{Given}
 use Rattle.kb_words.proofs.CommandLines as line
 
 -- nothing is wrong with the options written anew, and the command says the same with `clap`'s values

@@ -4,19 +4,19 @@ use Rattle.std.specs.Prelude.{⊤, option_and_then}
 use Rattle.kb_days.specs.DateText.{read_day, named_day, date_text, civil_text}
 use Rattle.kb_days.specs.Dates.{march}
 use Rattle.kb_days.specs.Calendar.{month_start, month_length, month_of, month_after, day_of_month}
-use Rattle.kb_options.specs.Commands.{Text, verb_of, setting_of}
-use Rattle.kb_options.specs.Values.{number_in, kind_of}
-use Rattle.kb_options.specs.Options.{Word, word_of, options_of, are_options_of, value_of}
-use Rattle.kb_options.specs.declared.verb.Verb.{Verb}
-use Rattle.kb_options.specs.declared.verb.Verb.TheVariants as verb
-use Rattle.kb_options.specs.declared.setting.Setting.{Setting}
-use Rattle.kb_options.specs.declared.setting.Setting.TheVariants.{Dir, Lanes, Catalog, Overdue, Gateway, Day}
-use Rattle.kb_options.specs.declared.setting.Setting.TheVariants.{Workers, Port, Bus, Connections, Kind, Seed}
-use Rattle.kb_options.specs.declared.setting.Setting.TheVariants.{Accounts, Months}
-use Rattle.kb_options.specs.declared.report_kind.ReportKind.TheVariants.{Balances}
+use Rattle.kb_words.specs.Commands.{Text, verb_of, setting_of}
+use Rattle.kb_words.specs.Values.{number_in, kind_of}
+use Rattle.kb_words.specs.Options.{Word, word_of, options_of, are_options_of, value_of}
+use Rattle.kb_words.specs.declared.verb.Verb.{Verb}
+use Rattle.kb_words.specs.declared.verb.Verb.TheVariants as verb
+use Rattle.kb_words.specs.declared.setting.Setting.{Setting}
+use Rattle.kb_words.specs.declared.setting.Setting.TheVariants.{Dir, Lanes, Catalog, Overdue, Gateway, Day}
+use Rattle.kb_words.specs.declared.setting.Setting.TheVariants.{Workers, Port, Bus, Connections, Kind, Seed}
+use Rattle.kb_words.specs.declared.setting.Setting.TheVariants.{Accounts, Months}
+use Rattle.kb_words.specs.declared.report_kind.ReportKind.TheVariants.{Balances}
 use Rattle.kb_words.specs.declared.words.Words.{Words}
 use Rattle.kb_words.specs.declared.words.Words.TheVariants.{Init, Apply, Bill, Serve, Report, Make}
-use Rattle.kb_options.specs.declared.given.Given.{Given}
+use Rattle.kb_words.specs.declared.given.Given.{Given}
 
 -- with the value, if there is one; else nothing
 abbrev pub with_value : {A B : Type 0} → Option A → (A → Option B) → Option B

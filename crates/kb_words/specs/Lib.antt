@@ -1,2 +1,6 @@
+pub mod Commands
 pub mod Grammar
+pub mod Options
 pub mod Private
+pub mod Tokens
+pub mod Values

@@ -1,4 +1,4 @@
+pub mod Parsed
 pub mod Reading
 pub mod Words
 pub mod Written
-pub mod Parsed

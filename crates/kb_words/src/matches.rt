@@ -6,10 +6,11 @@ ghost use Rattle.kb_words.specs.declared.read.WordsFault.TheVariants.{Words};
 ghost use Rattle.kb_words.specs.Private.Parsed.{HasValues, app_for, faults_of, rule_for};
 
 use crate::read::WordsFault;
+use crate::setting::Setting;
+use crate::verb::Verb;
 use clap::error::ErrorKind;
 use clap::{Arg, ArgMatches, Command, Error};
 use kb_base::NoMemory;
-use kb_options::{Setting, Verb};
 use std::alloc::Global;
 
 /// What `clap` makes of the words behind a command, each of which is `--name=VALUE`.

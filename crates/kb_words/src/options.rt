@@ -1,13 +1,16 @@
 //! The options that words give.
 ghost use Rattle.std.specs.Prelude.{◌≡◌, ◌∷◌, List, map, string_bytes, Err, IfOk, OnOk, None, Some, ◌++◌, []};
-ghost use Rattle.kb_options.specs.Options.{Word, options_of, word_of};
+ghost use Rattle.kb_words.specs.Options.{Word, options_of, word_of};
 ghost use Rattle.kb_words.specs.Private.Words.{options_with};
-ghost use Rattle.kb_options.specs.Tokens.{seen_word};
+ghost use Rattle.kb_words.specs.Tokens.{seen_word};
 ghost use Rattle.kb_words.specs.declared.read.WordsFault.TheVariants.{Words};
 
+use crate::given::Given;
 use crate::read::WordsFault;
+use crate::setting::Setting;
+use crate::text::Text;
+use crate::word::{Token, word_of};
 use kb_base::NoMemory;
-use kb_options::{Given, Setting, Text, Token, word_of};
 use std::alloc::Global;
 
 /// The options that words give, in their order.

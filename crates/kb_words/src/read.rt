@@ -1,15 +1,16 @@
 //! Reading the words of a command line.
 ghost use Rattle.std.specs.Prelude.{◌≡◌, ◌↔◌, map, string_bytes, Err, IfOk, None, Some};
-ghost use Rattle.kb_options.specs.Options.{word_of};
+ghost use Rattle.kb_words.specs.Options.{word_of};
 ghost use Rattle.kb_words.specs.Grammar.{options_words, words_of, words_with};
 ghost use Rattle.kb_words.specs.Private.Reading.{IsRead};
 
-use crate::Words;
+use crate::given::{Given, are_options_of};
 use crate::options::options_of;
 use crate::values::parsed_words;
+use crate::verb::{Verb, verb_of};
+use crate::words::Words;
 use crate::written::written_of;
 use kb_base::NoMemory;
-use kb_options::{Given, Verb, are_options_of, verb_of};
 use std::alloc::Global;
 use std::error::Error;
 use std::fmt;

@@ -1,19 +1,24 @@
 //! The values of options, as `clap`'s matches give them.
 ghost use Rattle.std.specs.Prelude.{◌≡◌, option_and_then, option_map, map, string_bytes, IfOk, []};
 ghost use Rattle.kb_days.specs.DateText.{read_day};
-ghost use Rattle.kb_options.specs.Values.{kind_of};
+ghost use Rattle.kb_words.specs.Values.{kind_of};
 ghost use Rattle.kb_words.specs.Grammar.{apply_words, bill_words, command_words, init_words};
 ghost use Rattle.kb_words.specs.Grammar.{make_words, number, report_words, serve_words};
 ghost use Rattle.kb_words.specs.Private.Parsed.{faults_of, matched_value, parsed_value};
 ghost use Rattle.kb_words.specs.Private.Reading.{IsRead};
 
 use crate::matches::matches_of;
+use crate::number::number_in;
 use crate::read::WordsFault;
-use crate::{Apply, Bill, Init, Make, Report, Serve, Words};
+use crate::report_kind::{ReportKind, kind_of};
+use crate::setting::Setting;
+use crate::text::Text;
+use crate::verb::Verb;
+use crate::within::Within;
+use crate::words::{Apply, Bill, Init, Make, Report, Serve, Words};
 use clap::ArgMatches;
 use kb_base::NoMemory;
 use kb_days::{Day, parse};
-use kb_options::{ReportKind, Setting, Text, Verb, Within, kind_of, number_in};
 use std::alloc::Global;
 
 /// What a command says with words that `clap` reads.

@@ -1,7 +1,9 @@
 //! What a command line says.
 
+use crate::report_kind::ReportKind;
+use crate::text::Text;
+use crate::within::Within;
 use kb_days::Day;
-use kb_options::{ReportKind, Text, Within};
 
 /// A command with the values of its options.
 #[derive(Debug, Drop)]

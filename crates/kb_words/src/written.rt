@@ -1,10 +1,11 @@
 //! Options written anew, in one order and one spelling.
 ghost use Rattle.std.specs.Prelude.{◌≡◌, map, string_bytes, IfOk};
 ghost use Rattle.kb_words.specs.Private.Written.{spelled, written_of};
-ghost use Rattle.kb_options.specs.Options.{value_of};
+ghost use Rattle.kb_words.specs.Options.{value_of};
 
+use crate::given::{Given, value_of};
+use crate::setting::Setting;
 use kb_base::NoMemory;
-use kb_options::{Given, Setting, value_of};
 use std::alloc::Global;
 
 /// The options among these that are given, in this order, each as `--name=VALUE`.

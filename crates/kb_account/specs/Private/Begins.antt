@@ -4,12 +4,12 @@ use Rattle.std.specs.Prelude.{Option, Some, None}
 use Rattle.std.specs.Arc.{arc_value}
 use Rattle.kb_payment.specs.declared.attempt.Attempt.{Attempt}
 use Rattle.kb_payment.specs.PaymentSums.{PaymentsValue, Moves, attempt_of}
-use Rattle.kb_commands.specs.declared.command.Command.{Command}
+use Rattle.kb_codec.specs.declared.command.Command.{Command}
 use Rattle.kb_book.specs.declared.refusal.Refusal.{Refusal}
 use Rattle.kb_book.specs.Worlds.{WorldValue}
 use Rattle.kb_book.specs.Rows.{first_refusal}
 use Rattle.kb_book.specs.Refusals.{own_rows}
-use Rattle.kb_book.specs.Issues.{SubscriptionItems, no_items}
+use Rattle.kb_tree.specs.Issues.{SubscriptionItems, no_items}
 use Rattle.kb_book.specs.Books.{BookValue}
 use Rattle.kb_account.specs.declared.begun.Begun.{Begun}
 use Rattle.kb_account.specs.declared.begun.Move.{Move}

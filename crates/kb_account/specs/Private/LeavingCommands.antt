@@ -1,7 +1,7 @@
 -- Commands that leave what is due.
 use Rattle.std.specs.Prelude.{◌≡◌, Bool, true, false, None, codes, refl}
-use Rattle.kb_commands.specs.declared.command.Command.{Command}
-use Rattle.kb_commands.specs.declared.command.Command.TheVariants as kinds
+use Rattle.kb_codec.specs.declared.command.Command.{Command}
+use Rattle.kb_codec.specs.declared.command.Command.TheVariants as kinds
 
 -- A command leaves what is due, since its own edit is of no subscription, no blocking state and no billed
 -- date. So do some other commands, but not for each book.

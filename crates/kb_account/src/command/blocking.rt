@@ -4,11 +4,13 @@ ghost use Rattle.kb_book.specs.Rows.{IsUnprepared};
 ghost use Rattle.kb_book.specs.Edits.{begun};
 ghost use Rattle.kb_account.specs.Private.States.{value_of};
 ghost use Rattle.kb_account.specs.Private.Begins.{begun_of, own_refusal, IsBegun};
-ghost use Rattle.kb_laws.specs.SoundBooks.{IsBook};
+ghost use Rattle.kb_book.specs.SoundBooks.{IsBook};
 
-use crate::{Begun, State, World};
+use crate::begun::Begun;
+use crate::state::State;
+use crate::world::World;
 use kb_book::{Refusal, Unprepared};
-use kb_commands::{Block, Command, Overdue, Pause, Resume};
+use kb_codec::{Block, Command, Overdue, Pause, Resume};
 use kb_days::Day;
 use kb_edits as edits;
 use std::alloc::Global;

@@ -4,13 +4,14 @@ ghost use Rattle.kb_book.specs.Rows.{IsUnprepared};
 ghost use Rattle.kb_book.specs.Edits.{begun};
 ghost use Rattle.kb_account.specs.Private.States.{value_of};
 ghost use Rattle.kb_account.specs.Private.Begins.{begun_of, own_refusal, IsBegun};
-ghost use Rattle.kb_laws.specs.SoundBooks.{IsBook};
+ghost use Rattle.kb_book.specs.SoundBooks.{IsBook};
 
-use crate::{Begun, State, World, later};
-use kb_book::{Refusal, Unprepared};
-use kb_commands::{Autopay, Bill, Charge, Command, Credit};
+use crate::begun::{Begun, later};
+use crate::state::State;
+use crate::world::World;
+use kb_book::{Refusal, Unprepared, asked_day};
+use kb_codec::{Autopay, Bill, Charge, Command, Credit};
 use kb_days::Day;
-use kb_terms::asked_day;
 
 /// The greatest amount of a charge or a credit, in minor units.
 pub(crate) const MAX_CHARGE: u64 = 1_000_000_000;

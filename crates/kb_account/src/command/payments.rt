@@ -7,11 +7,14 @@ ghost use Rattle.kb_book.specs.Inner.{invoice_due};
 ghost use Rattle.kb_book.specs.PaymentRows.{balance_at};
 ghost use Rattle.kb_account.specs.Private.States.{value_of};
 ghost use Rattle.kb_account.specs.Private.Begins.{begun_of, own_refusal, invoice_of, HasMoved, IsBegun};
-ghost use Rattle.kb_laws.specs.SoundBooks.{IsBook};
+ghost use Rattle.kb_book.specs.SoundBooks.{IsBook};
 
-use crate::{Begun, Move, State, World, auto_key, move_on};
+use crate::begun::{Begun, Move, move_on};
+use crate::due::auto_key;
+use crate::state::State;
+use crate::world::World;
 use kb_book::{Refusal, Unprepared};
-use kb_commands::{Auto, Chargeback, Command, InvoiceNo, Pay, Refund, Settle};
+use kb_codec::{Auto, Chargeback, Command, InvoiceNo, Pay, Refund, Settle};
 use kb_days::{Day, Name};
 use kb_edits as edits;
 use kb_payment::{Attempt, Payments};

@@ -4,36 +4,13 @@ ghost use Rattle.kb_credit.specs.InvoiceRows.{numbered};
 ghost use Rattle.kb_account.specs.Views.{name_at, line_name, item_view, shown_item, items_from, invoice_view};
 ghost use Rattle.kb_account.specs.Private.States.{value_of};
 
-use crate::State;
+use crate::state::State;
 use kb_base::{NoMemory, Seq};
+use kb_book::{InvoiceView, ItemView};
 use kb_credit::{Invoices, Line};
 use kb_days::{Day, Name};
 use kb_timeline::Timeline;
 use std::alloc::Global;
-
-/// An invoice. Sums are in minor units.
-#[derive(Drop)]
-pub struct InvoiceView {
-    /// Its number.
-    pub invoice: u32,
-    pub day: Day,
-    /// The sum of its items, without its credit adjustments.
-    pub total: i128,
-    /// What is left to pay of it.
-    pub balance: i128,
-    /// Its items, in order of their numbers.
-    pub items: Seq<ItemView>,
-}
-
-/// An item of an invoice.
-#[derive(Clone, Copy)]
-pub struct ItemView {
-    /// Its number.
-    pub item: u64,
-    /// The name of its subscription. None if it is of none.
-    pub subscription: Option<Name>,
-    pub line: Line,
-}
 
 impl State {
     /// The invoice of a number, if it is there.

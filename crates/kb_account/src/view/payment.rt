@@ -3,20 +3,10 @@ ghost use Rattle.std.specs.Prelude.{◌≡◌};
 ghost use Rattle.kb_account.specs.Views.{attempt_view, payment_view};
 ghost use Rattle.kb_account.specs.Private.States.{value_of};
 
-use crate::State;
+use crate::state::State;
+use kb_book::PaymentView;
 use kb_days::Name;
-use kb_payment::{Attempt, Kind, Status};
-
-/// A payment. The amount is in minor units.
-#[derive(Clone, Copy)]
-pub struct PaymentView {
-    pub payment: Name,
-    pub kind: Kind,
-    /// The number of the invoice on which it pays, or from which it takes back.
-    pub invoice: u32,
-    pub amount: u64,
-    pub status: Status,
-}
+use kb_payment::Attempt;
 
 impl State {
     /// The payment of a key, if it is there.

@@ -2,7 +2,8 @@
 ghost use Rattle.std.specs.Prelude.{◌≡◌, ◌<◌, length, slice_get, IfOk, IfSome};
 ghost use Rattle.kb_account.specs.Sums.{bundle_at, state_row, states_from, states_of};
 
-use crate::{Book, World};
+use crate::book::Book;
+use crate::world::World;
 use kb_base::NoMemory;
 use kb_days::{Day, Name};
 use kb_due::{Entitlement, Facts, state_on};

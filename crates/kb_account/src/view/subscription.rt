@@ -5,30 +5,16 @@ ghost use Rattle.kb_book.specs.Dues.{facts_of};
 ghost use Rattle.kb_account.specs.Views.{live_terms, place_view, subscription_view};
 ghost use Rattle.kb_account.specs.Private.States.{value_of};
 
+use crate::state::State;
 use crate::view::states::bundle_name;
-use crate::{State, World};
+use crate::world::World;
 use kb_base::NoMemory;
+use kb_book::SubscriptionView;
+use kb_catalog::PhaseType;
 use kb_days::{Day, Name, Reach};
 use kb_due::{Entitlement, Facts, Governing, governing_on, live, state_on};
-use kb_edits::place_of;
-use kb_plans::PhaseType;
-use kb_terms::through_of;
+use kb_edits::{place_of, through_of};
 use std::alloc::Global;
-
-/// A subscription on a day.
-#[derive(Clone, Copy)]
-pub struct SubscriptionView {
-    pub subscription: Name,
-    pub bundle: Name,
-    pub day: Day,
-    pub state: Entitlement,
-    /// The plan that it is on. None if it isn't live on the day.
-    pub plan: Option<Name>,
-    /// The type of the phase that it is in. None if it isn't live on the day.
-    pub phase: Option<PhaseType>,
-    /// The day until which it is charged, that day excluded. None if no day is.
-    pub charged_through: Option<Reach>,
-}
 
 impl State {
     /// The subscription of a name on a day, if it is there.

@@ -1,9 +1,9 @@
 //! What an account adds up to.
 ghost use Rattle.std.specs.Prelude.{◌≡◌};
-ghost use Rattle.kb_laws.specs.BoundedSums.{IsBounded};
+ghost use Rattle.kb_book.specs.BoundedSums.{IsBounded};
 ghost use Rattle.kb_account.specs.Sums.{sums_of};
 
-use crate::Book;
+use crate::book::Book;
 use kb_days::{Day, Name};
 
 /// What an account adds up to. Sums are in minor units, from -2^103 to 2^103.

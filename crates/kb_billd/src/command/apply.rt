@@ -1,24 +1,20 @@
 //! `apply`: the lines of the input, answered by the lanes of a folder.
 ghost use Rattle.std.specs.Prelude.{◌≡◌, ◌≤◌, ◌<◌, ℕ, Err, true, false, length};
 ghost use Rattle.kb_base.specs.Faults.{Rose};
-ghost use Rattle.kb_lines.specs.declared.stop.Stop.TheVariants.{Input, Output};
-ghost use Rattle.kb_apply.specs.declared.apply.ApplyStop.TheVariants as runs;
+ghost use Rattle.kb_runs.specs.declared.run_stop.RunStop.TheVariants.{Input, Output};
 ghost use Rattle.kb_apply.specs.LaneRuns.{outside_of};
-ghost use Rattle.kb_loading.specs.Folders.{told_of, words_of};
-ghost use Rattle.kb_endings.specs.declared.stop.Stop.TheVariants as stops;
-ghost use Rattle.kb_billd.specs.Runs.{AppliesFolder, outcome_of, stop_of_run, stop_of_unopened};
+ghost use Rattle.kb_folder.specs.Folders.{told_of, words_of};
+ghost use Rattle.kb_runs.specs.declared.stop.Stop.TheVariants as stops;
+ghost use Rattle.kb_billd.specs.Runs.{AppliesFolder, stop_of_unopened};
 ghost use Rattle.kb_billd.specs.Private.OpenRuns.{RunsOpen};
 
-use kb_apply::{ApplyStop, Lanes, apply_lanes};
-use kb_clock::Clock;
-use kb_endings::Stop;
+use kb_apply::{Lanes, apply_lanes};
+use kb_disk::Vault;
+use kb_folder::{Unopened, open_lanes, put_back};
 use kb_gateway::{Gateway, Market};
 use kb_lane::Lane;
-use kb_lines::Stop as RunStop;
-use kb_loading::Unopened;
-use kb_opening::{open_lanes, put_back};
-use kb_ports::{Sink, Source};
-use kb_vault::Vault;
+use kb_ports::{Clock, Sink, Source};
+use kb_runs::{RunStop, Stop};
 use std::alloc::Global;
 
 /// Answers the lines of the input by the lanes of a folder, each with a gateway of this name.
@@ -47,7 +43,7 @@ pub fn apply_folder<I: Source, O: Sink, V: Vault, M: Market, C: Clock + Drop>(
     ensures output_rising { O.faults output.old ≤ O.faults output.new }
 {
     match open_lanes(alloc, vault, market, folder, gateway) {
-        Ok(lanes) => outcome_of(run_open(alloc, folder, lanes, input, output, vault, clock)),
+        Ok(lanes) => run_open(alloc, folder, lanes, input, output, vault, clock),
         Err(fault) => Err(stop_of_unopened(fault)),
     }
 }
@@ -61,7 +57,7 @@ fn run_open<I: Source, O: Sink, V: Vault, G: Gateway + Drop, C: Clock + Drop>(
     output: &mut O,
     vault: &mut V,
     clock: C,
-) -> Result<(), ApplyStop>
+) -> Result<(), Stop>
     requires some { 1 ≤ length lanes.items }
     requires few { length lanes.items ≤ 64 }
     requires outside { (place : ℕ) → place < length lanes.items → V.is_out vault.old folder.now place ≡ true }
@@ -72,35 +68,14 @@ fn run_open<I: Source, O: Sink, V: Vault, G: Gateway + Drop, C: Clock + Drop>(
         (told_of V.is_out V.lane_bytes V.file_bytes V.faults vault.old)
         (told_of V.is_out V.lane_bytes V.file_bytes V.faults vault.new)
         (I.left input.old) (I.left input.new) (O.written output.old) (O.written output.new) result }
-    ensures input_fault { result ≡ Err (runs.Run Input) → Rose (I.faults input.old) (I.faults input.new) }
-    ensures output_fault { result ≡ Err (runs.Run Output) → Rose (O.faults output.old) (O.faults output.new) }
+    ensures input_fault { result ≡ Err (stops.Run Input) → Rose (I.faults input.old) (I.faults input.new) }
+    ensures output_fault { result ≡ Err (stops.Run Output) → Rose (O.faults output.old) (O.faults output.new) }
     ensures output_rising { O.faults output.old ≤ O.faults output.new }
 {
     let mut lanes = Lanes::new(lanes, clock);
     let outcome = apply_lanes(alloc, &mut lanes, input, output);
     put_back(vault, folder, lanes.into_lanes());
     outcome
-}
-
-/// How the program ends after a run of lanes.
-fn outcome_of(run: Result<(), ApplyStop>) -> Result<(), Stop>
-    ensures { result ≡ outcome_of run }
-{
-    match run {
-        Ok(()) => Ok(()),
-        Err(stop) => Err(stop_of_run(stop)),
-    }
-}
-
-/// What stops the program after a run of lanes.
-fn stop_of_run(stop: ApplyStop) -> Stop
-    ensures { result ≡ stop_of_run stop }
-{
-    match stop {
-        ApplyStop::Run(stop) => Stop::Run(stop),
-        ApplyStop::Disk => Stop::Disk,
-        ApplyStop::Full => Stop::Full,
-    }
 }
 
 /// What stops the program where lanes aren't opened.

@@ -1,13 +1,12 @@
 //! `init`: the lanes of a folder, made with a catalog text and an overdue text.
 ghost use Rattle.std.specs.Prelude.{◌≡◌, ℕ, false};
-ghost use Rattle.kb_loading.specs.Folders.{told_of};
+ghost use Rattle.kb_folder.specs.Folders.{told_of};
 ghost use Rattle.kb_billd.specs.Foundings.{FoundsFolder, outcome_of_founding, stop_of_unfounded};
 
 use kb_days::Day;
-use kb_endings::Stop;
-use kb_founding::{Unfounded, found_lanes};
-use kb_lines::Stop as RunStop;
-use kb_vault::Vault;
+use kb_disk::Vault;
+use kb_folder::{Unfounded, found_lanes};
+use kb_runs::{RunStop, Stop};
 use kb_words::Init;
 use std::alloc::Global;
 

@@ -1,14 +1,13 @@
 //! `make`: accounts made from a seed, in memory.
 ghost use Rattle.std.specs.Prelude.{◌≡◌, ◌≤◌, ◌<◌, Err};
 ghost use Rattle.kb_base.specs.Faults.{Rose};
-ghost use Rattle.kb_lines.specs.declared.stop.Stop.TheVariants.{Input, Output};
-ghost use Rattle.kb_endings.specs.declared.stop.Stop.TheVariants as stops;
+ghost use Rattle.kb_runs.specs.declared.run_stop.RunStop.TheVariants.{Input, Output};
+ghost use Rattle.kb_runs.specs.declared.stop.Stop.TheVariants as stops;
 ghost use Rattle.kb_billd.specs.Summaries.{MakesBy};
 
-use kb_endings::Stop;
-use kb_lines::Stop as RunStop;
 use kb_make::make;
 use kb_ports::{Sink, write_all};
+use kb_runs::{RunStop, Stop};
 use kb_words::Make;
 use std::alloc::Global;
 

@@ -2,26 +2,24 @@
 ghost use Rattle.std.specs.Prelude.{◌≡◌, ◌≤◌, ◌<◌, ℕ, Err, true, false, length, map};
 ghost use Rattle.kb_base.specs.Faults.{Rose};
 ghost use Rattle.kb_lane.specs.Lanes.{machine_of};
-ghost use Rattle.kb_lines.specs.declared.stop.Stop.TheVariants.{Input, Output};
-ghost use Rattle.kb_loading.specs.Folders.{told_of, words_of};
-ghost use Rattle.kb_opening.specs.Openings.{AreBack};
-ghost use Rattle.kb_endings.specs.declared.stop.Stop.TheVariants as stops;
+ghost use Rattle.kb_runs.specs.declared.run_stop.RunStop.TheVariants.{Input, Output};
+ghost use Rattle.kb_folder.specs.Folders.{told_of, words_of};
+ghost use Rattle.kb_folder.specs.Openings.{AreBack};
+ghost use Rattle.kb_runs.specs.declared.stop.Stop.TheVariants as stops;
 ghost use Rattle.kb_reports.specs.declared.printing.Unprinted.TheVariants as unprinted;
 ghost use Rattle.kb_billd.specs.Reports.{PrintsBy, ReportsFolder, outcome_of_printing, said_by};
 
 use crate::command::apply::stop_of_unopened;
 use crate::top::NO_GATEWAY;
 use kb_days::Day;
-use kb_disk::Disk;
-use kb_endings::Stop;
+use kb_disk::{Disk, Vault};
+use kb_folder::{open_lanes, put_back};
 use kb_gateway::{Gateway, NoGateway, NoMarket};
 use kb_lane::Lane;
-use kb_lines::Stop as RunStop;
-use kb_opening::{open_lanes, put_back};
-use kb_options::ReportKind;
 use kb_ports::Sink;
 use kb_reports::{Arrears, Balances, States, Unprinted, print};
-use kb_vault::Vault;
+use kb_runs::{RunStop, Stop};
+use kb_words::ReportKind;
 use std::alloc::Global;
 
 /// Prints a report of all accounts of a folder's lanes, which stay as they are. No gateway is asked anything.

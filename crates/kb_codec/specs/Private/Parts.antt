@@ -6,13 +6,13 @@ use Rattle.kb_days.specs.declared.period.Period.{Period}
 use Rattle.kb_payment.specs.declared.attempt.Status.{Status}
 use Rattle.kb_blocking.specs.declared.state.Flags.{Flags}
 use Rattle.kb_catalog_text.specs.Texts.{CatalogText, OverdueText}
-use Rattle.kb_commands.specs.declared.scope.BlockScope.{BlockScope}
-use Rattle.kb_commands.specs.declared.command.Command.{Command}
-use Rattle.kb_commands.specs.declared.command.Command.TheVariants as kinds
-use Rattle.kb_members.specs.Reading.{Reader, into, chained}
-use Rattle.kb_members.specs.Kinds.{Member, both, optional, name, currency, bcd, day, invoice, amount, truth}
-use Rattle.kb_members.specs.Kinds.{period, scope, status, flags, catalog, overdue}
-use Rattle.kb_members.specs.Reading as reading
+use Rattle.kb_codec.specs.declared.scope.BlockScope.{BlockScope}
+use Rattle.kb_codec.specs.declared.command.Command.{Command}
+use Rattle.kb_codec.specs.declared.command.Command.TheVariants as kinds
+use Rattle.kb_codec.specs.Reading.{Reader, into, chained}
+use Rattle.kb_codec.specs.MemberKinds.{Member, both, optional, name, currency, bcd, day, invoice, amount}
+use Rattle.kb_codec.specs.MemberKinds.{truth, period, scope, status, flags, catalog, overdue}
+use Rattle.kb_codec.specs.Reading as reading
 
 -- the members of kind 1
 abbrev pub catalog_text : Member (List ℕ × CatalogText)

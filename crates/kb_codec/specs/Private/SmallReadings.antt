@@ -1,7 +1,7 @@
 -- Readings of commands of a few bytes.
 use Rattle.std.specs.Prelude.{◌≡◌, [], ◌∷◌, Some, None, codes, refl}
-use Rattle.kb_commands.specs.declared.command.Command.TheVariants as kinds
-use Rattle.kb_members.specs.Reading.{name_in}
+use Rattle.kb_codec.specs.declared.command.Command.TheVariants as kinds
+use Rattle.kb_codec.specs.Reading.{name_in}
 use Rattle.kb_codec.specs.Private.Parts.{command_in, whole}
 
 a_look_at_a1 : command_in (20 ∷ 2 ∷ 97 ∷ 49 ∷ 7 ∷ []) ≡ Some

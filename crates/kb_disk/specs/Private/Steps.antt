@@ -1,9 +1,8 @@
 -- What a call makes of the bytes is one of the images that it leaves.
 use Rattle.std.proofs.Common.{ℕ, ◌≡◌, ◌+◌, ◌-◌, ◌≤◌, min, List, [], ◌++◌, length, take, drop, refl, sym, ◌∙◌}
-use Rattle.std.proofs.Common.{ap, inl, inr, arith, length-append, length-take, length-drop}
+use Rattle.std.proofs.Common.{ap, inl, inr, arith, length-append, length-take, length-drop, append_assoc}
 use Rattle.std.proofs.lemmas.Bool.{cases_lt}
 use Rattle.std.proofs.lemmas.List.{append-nil, take-append-le, take_at, take_all, take_min, drop_at, drop_all}
-use Rattle.std.proofs.Common.{append_assoc}
 use Rattle.kb_disk.specs.Images.{overwritten, Torn, CutDown}
 
 -- a write may leave all as it was

@@ -1,7 +1,7 @@
 -- Days among which all are that may change what is charged.
 use Rattle.std.specs.Prelude.{ℕ, ◌≡◌, ◌<◌, ◌≤◌, true, List, get_or, Contains, All, Option, IfSome}
 use Rattle.std.specs.List.Sorted.{IsNonDecreasing}
-use Rattle.kb_valid.specs.declared.version.Version.{Version}
+use Rattle.kb_catalog.specs.declared.version.Version.{Version}
 use Rattle.kb_align.specs.Phases.{phase_starts}
 use Rattle.kb_timeline.specs.declared.entry.Entry.{Entry}
 use Rattle.kb_timeline.specs.declared.subscription.Subscription.{Subscription}

@@ -1,6 +1,6 @@
 -- Days on which nothing happens.
 use Rattle.std.specs.Prelude.{ℕ, ◌<◌, ◌≤◌, List, All, slice_get, Option, IfSome}
-use Rattle.kb_valid.specs.declared.version.Version.{Version}
+use Rattle.kb_catalog.specs.declared.version.Version.{Version}
 use Rattle.kb_align.specs.Phases.{phase_starts}
 use Rattle.kb_timeline.specs.declared.entry.Entry.{Entry}
 use Rattle.kb_timeline.specs.EntryDays.{entry_on}

@@ -1,13 +1,12 @@
 -- What the code's own parts give.
-use Rattle.std.specs.Prelude.{ℕ, Bool, ◌≡◌, ◌≤◌, ◌⊎◌, if◌then◌else◌}
-use Rattle.std.specs.Prelude.{List, [], ◌∷◌, length, drop, codes}
+use Rattle.std.specs.Prelude.{ℕ, Bool, ◌≡◌, ◌≤◌, ◌⊎◌, if◌then◌else◌, List, [], ◌∷◌, length, drop, codes}
 use Rattle.std.specs.Prelude.{Option, Some, None, Result, Ok, Err}
 use Rattle.httparse.specs.Grammar.{RequestHead, print_request, ReadsRequest, HasNoRequest, MayBecomeRequest}
 use Rattle.kb_http.specs.declared.head.Head.{Head}
 use Rattle.kb_http.specs.declared.head.Seen.{Seen}
 use Rattle.kb_http.specs.declared.head.Seen.TheVariants.{Whole, Part, Refused}
 use Rattle.kb_http.specs.Heads.{is_named, max_fields, fields_of, told_length, framing_of, asks_for_end}
-use Rattle.kb_paths.specs.Routes.{method_of, route_of}
+use Rattle.kb_http.specs.Routes.{method_of, route_of}
 use Rattle.kb_http.specs.Requests.{IsHopeless, HasFurtherField}
 
 -- what the parts of a head ask, as the code keeps it

@@ -1,11 +1,11 @@
 -- What the steps of a run need of one another.
 use Rattle.std.specs.Prelude.{◌≡◌, false, List, All}
 use Rattle.kb_gateway.specs.declared.order.Asked.{Asked}
-use Rattle.kb_commands.specs.declared.command.Command.{Command}
-use Rattle.kb_attempts.specs.Attempts.{settles}
-use Rattle.kb_reply.specs.declared.step.Step.{Step}
-use Rattle.kb_reply.specs.declared.step.Step.TheVariants as steps
-use Rattle.kb_works.specs.declared.work.Work.{Work}
+use Rattle.kb_codec.specs.declared.command.Command.{Command}
+use Rattle.kb_histories.specs.Attempts.{settles}
+use Rattle.kb_book.specs.declared.step.Step.{Step}
+use Rattle.kb_book.specs.declared.step.Step.TheVariants as steps
+use Rattle.kb_lane.specs.declared.work.Work.{Work}
 use Rattle.kb_lane.specs.Asking.{asks_in}
 
 -- a command settles none of the payments that an outbox is yet to ask for

@@ -3,10 +3,10 @@ use Rattle.std.specs.Prelude.{ℕ, ◌≡◌, ◌+◌, true, false, [], ◌∷�
 use Rattle.kb_base.specs.Faults.{Rose}
 use Rattle.kb_journal.specs.Keeping.{IsFull}
 use Rattle.kb_journal.specs.declared.fault.AppendFault.TheVariants.{Stopped, Full, DiskFault}
-use Rattle.kb_reply.specs.declared.reply.LaneReply.{LaneReply}
-use Rattle.kb_reply.specs.declared.reply.LaneReply.TheVariants as replies
-use Rattle.kb_log.specs.Entries.{Entry}
-use Rattle.kb_log.specs.Logs.{MayAppend}
+use Rattle.kb_book.specs.declared.reply.LaneReply.{LaneReply}
+use Rattle.kb_book.specs.declared.reply.LaneReply.TheVariants as replies
+use Rattle.kb_codec.specs.Entries.{Entry}
+use Rattle.kb_lane.specs.Logs.{MayAppend}
 use Rattle.kb_lane.specs.Lanes.{LaneValue}
 use Rattle.kb_lane.specs.declared.accept.Unwritten.{Unwritten}
 use Rattle.kb_lane.specs.declared.accept.Unwritten.TheVariants.{NoMemory, Append}

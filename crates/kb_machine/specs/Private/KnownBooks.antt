@@ -4,7 +4,7 @@ use Rattle.std.specs.FinMap.{find}
 use Rattle.kb_sharing.specs.Keys.{by_words}
 use Rattle.kb_book.specs.Worlds.{WorldValue}
 use Rattle.kb_book.specs.Books.{BookValue, Keyed}
-use Rattle.kb_laws.specs.BilledBooks.{IsBilled}
+use Rattle.kb_book.specs.BilledBooks.{IsBilled}
 
 -- a book is billed by some texts, if it is there
 abbrev pub IsBilledOf : WorldValue → Option BookValue → Type 0

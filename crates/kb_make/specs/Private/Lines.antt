@@ -1,7 +1,7 @@
 -- The parts of a summary's line.
 use Rattle.std.specs.Prelude.{ℕ, List, ◌++◌, codes, decimal}
 use Rattle.std.specs.Fmt.{signed_decimal}
-use Rattle.kb_totals.specs.declared.totals.Totals.{Totals}
+use Rattle.kb_make.specs.declared.totals.Totals.{Totals}
 
 -- how many there are of each kind
 abbrev pub counts_text : Totals → ℕ → List ℕ

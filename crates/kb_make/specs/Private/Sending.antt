@@ -1,10 +1,10 @@
 -- How a lane sends a command.
 use Rattle.std.specs.Prelude.{ℕ, ◌+◌, Bool, true, false, List, Result, Ok, Err}
 use Rattle.kb_base.specs.declared.fault.NoMemory.{NoMemory}
-use Rattle.kb_log.specs.Entries.{Entry}
+use Rattle.kb_codec.specs.Entries.{Entry}
 use Rattle.kb_machine.specs.Machines.{MachineValue}
-use Rattle.kb_reply.specs.declared.reply.LaneReply.{LaneReply}
-use Rattle.kb_reply.specs.declared.reply.LaneReply.TheVariants as replies
+use Rattle.kb_book.specs.declared.reply.LaneReply.{LaneReply}
+use Rattle.kb_book.specs.declared.reply.LaneReply.TheVariants as replies
 use Rattle.kb_lane.specs.Lanes.{LaneValue, machine_of}
 use Rattle.kb_make.specs.Makes.{Busy, Sends}
 

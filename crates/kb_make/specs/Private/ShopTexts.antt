@@ -1,9 +1,9 @@
 -- The texts of the shop, as they are read.
 use Rattle.std.specs.Prelude.{◌≡◌, Some}
-use Rattle.kb_shop.specs.Shops.{shop_catalog, shop_overdue}
+use Rattle.kb_catalog_text.specs.Shops.{shop_catalog, shop_overdue}
 use Rattle.kb_catalog_text.specs.Texts.{CatalogText, OverdueText}
-use Rattle.kb_commands.specs.Commands.{IsCatalogText, IsOverdueText}
-use Rattle.kb_founding.specs.Foundings.{AreTextsOf}
+use Rattle.kb_codec.specs.Commands.{IsCatalogText, IsOverdueText}
+use Rattle.kb_folder.specs.Foundings.{AreTextsOf}
 
 -- what its catalog is read as
 unfoldable pub IsShopCatalog : CatalogText → Type 0

@@ -5,8 +5,9 @@ ghost use Rattle.kb_payment.specs.PaymentEdits.{give_back_fault};
 ghost use Rattle.kb_payment.specs.Private.GivenBack.{IsCovered, IsGiveBack};
 
 use super::Payments;
+use crate::attempt::Attempt;
+use crate::fault::PayFault;
 use crate::kept_attempt::with_kept;
-use crate::{Attempt, PayFault};
 use kb_base::NoMemory;
 use kb_days::Name;
 use std::alloc::Global;

@@ -6,9 +6,10 @@ ghost use Rattle.kb_payment.specs.PaymentEdits.{max_purchase};
 ghost use Rattle.kb_payment.specs.Private.KeptSums.{latest};
 
 use super::{MAX_PURCHASE, Payments};
+use crate::attempt::{Attempt, Kind, Status};
+use crate::fault::PayFault;
 use crate::kept_attempt::with_kept;
 use crate::on_invoice::OnInvoice;
-use crate::{Attempt, Kind, PayFault, Status};
 use kb_base::NoMemory;
 use kb_days::{Day, Name};
 use std::alloc::Global;

@@ -4,9 +4,9 @@ ghost use Rattle.kb_payment.specs.Attempts.{is_open, is_success, signed, with_st
 ghost use Rattle.kb_payment.specs.PaymentSums.{attempt_of, with_attempt};
 
 use super::Payments;
+use crate::attempt::{Attempt, Kind, Status};
 use crate::kept_attempt::with_kept;
 use crate::on_invoice::OnInvoice;
-use crate::{Attempt, Kind, Status};
 use kb_base::NoMemory;
 use kb_days::Name;
 use std::alloc::Global;

@@ -2,12 +2,11 @@
 ghost use Rattle.std.specs.Prelude.{◌≡◌, ◌++◌, ◌∷◌, ◌+◌, cond, is_some, IfOk};
 ghost use Rattle.std.specs.FinMap.Entries.{put};
 ghost use Rattle.std.specs.Arc.{arc_value};
-ghost use Rattle.kb_sharing.specs.Private.Nodes.{tree_entries, pair_of, found, grown, grown_one};
-ghost use Rattle.kb_sharing.specs.Private.Nodes.{IsSorted};
+ghost use Rattle.kb_sharing.specs.Private.Nodes.{tree_entries, pair_of, found, grown, grown_one, IsSorted};
 ghost use Rattle.kb_sharing.specs.Keys.{by_words};
 
 use super::tree::{Entry, Fork, Tree};
-use crate::Key;
+use crate::key::Key;
 use kb_base::NoMemory;
 use std::alloc::Global;
 use std::cmp::Ordering;

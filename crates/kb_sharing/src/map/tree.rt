@@ -2,11 +2,10 @@
 //! the same height.
 //!
 //! That the heights are nearly the same is only tested. What stands in a tree is proved, whatever its height.
-ghost use Rattle.std.specs.Prelude.{◌≡◌, ◌++◌, slice_get, IfOk, OnOk, option_copied, option_map};
-ghost use Rattle.std.specs.Prelude.{map as each};
+ghost use Rattle.std.specs.Prelude.{◌≡◌, ◌++◌, slice_get, IfOk, OnOk, option_copied, option_map, map as each};
 ghost use Rattle.kb_sharing.specs.Private.Nodes.{tree_entries, found, tree_behind};
 
-use crate::Key;
+use crate::key::Key;
 use kb_base::NoMemory;
 use std::alloc::Global;
 use std::cmp::Ordering;

@@ -3,9 +3,9 @@ use Rattle.std.specs.Prelude.{◌≡◌, true, not, List, map, Option, Some}
 use Rattle.clap.specs.declared.parser.matches.ArgMatches.{ArgMatches}
 use Rattle.clap.specs.Words.{App, Rule, Kinds, fault_of, first_of, first_value, found_of, matches_of}
 use Rattle.clap.specs.Words.{new_app, new_rule}
-use Rattle.kb_options.specs.declared.verb.Verb.{Verb}
-use Rattle.kb_options.specs.declared.setting.Setting.{Setting}
-use Rattle.kb_options.specs.Commands.{Text, verb_word, setting_name, settings_of, may_be_missing}
+use Rattle.kb_words.specs.declared.verb.Verb.{Verb}
+use Rattle.kb_words.specs.declared.setting.Setting.{Setting}
+use Rattle.kb_words.specs.Commands.{Text, verb_word, setting_name, settings_of, may_be_missing}
 
 -- an option of `clap`
 abbrev pub rule_for : Setting → Rule

@@ -1,8 +1,8 @@
 -- What is left of a line while it is read.
 use Rattle.std.specs.Prelude.{List, [], ◌∷◌, ◌++◌, Option, Some, None, option_map}
-use Rattle.kb_options.specs.declared.setting.Setting.{Setting}
-use Rattle.kb_options.specs.declared.given.Given.{Given}
-use Rattle.kb_options.specs.Options.{Word, opening, options_of}
+use Rattle.kb_words.specs.declared.setting.Setting.{Setting}
+use Rattle.kb_words.specs.declared.given.Given.{Given}
+use Rattle.kb_words.specs.Options.{Word, opening, options_of}
 
 -- an option that waits for its value, as the word that it came from
 abbrev pub waiting_words : Option Setting → List Word

@@ -1,8 +1,8 @@
 -- Options written anew: in one order, each as one word.
 use Rattle.std.specs.Prelude.{◌≡◌, ◌++◌, ◌∷◌, [], List, codes, Option, Some, None, refl}
-use Rattle.kb_options.specs.declared.setting.Setting.{Setting}
-use Rattle.kb_options.specs.declared.setting.Setting.TheVariants.{Dir}
-use Rattle.kb_options.specs.Commands.{Text, setting_name}
+use Rattle.kb_words.specs.declared.setting.Setting.{Setting}
+use Rattle.kb_words.specs.declared.setting.Setting.TheVariants.{Dir}
+use Rattle.kb_words.specs.Commands.{Text, setting_name}
 
 -- an option with its value as one word
 abbrev pub spelled : Setting → Text → Text

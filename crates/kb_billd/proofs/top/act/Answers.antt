@@ -1,4 +1,4 @@
-use Rattle.kb_loading.specs.Folders.{told_of, words_of}
+use Rattle.kb_folder.specs.Folders.{told_of, words_of}
 use Rattle.kb_billd.proofs.Founded.{founding_no_input, founding_no_output}
 use Rattle.kb_billd.proofs.Untouched.{founds, makes, reports}
 use Rattle.kb_billd.proofs.top.act.Goals as goal

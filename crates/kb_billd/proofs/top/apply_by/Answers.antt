@@ -1,6 +1,6 @@
 use Rattle.std.proofs.Common.{ap, option_copied, refl, sym, ◌∙◌}
 use Rattle.kb_apply.specs.LaneRuns.{outside_of}
-use Rattle.kb_loading.specs.Folders.{told_of, words_of}
+use Rattle.kb_folder.specs.Folders.{told_of, words_of}
 use Rattle.kb_billd.specs.TopCall.{alone}
 use Rattle.kb_billd.proofs.ByGateway.{by_market, by_none}
 use Rattle.kb_billd.proofs.top.apply_by.Goals as goal

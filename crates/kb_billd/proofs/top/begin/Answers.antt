@@ -1,6 +1,6 @@
 use Rattle.std.proofs.Common.{inl, subst, sym}
 use Rattle.kb_apply.specs.LaneRuns.{outside_of}
-use Rattle.kb_loading.specs.Folders.{told_of, words_of}
+use Rattle.kb_folder.specs.Folders.{told_of, words_of}
 use Rattle.kb_billd.specs.TopCall.{alone, around_of, Does}
 use Rattle.kb_billd.proofs.top.begin.Goals as goal
 

@@ -1,9 +1,9 @@
 use Rattle.std.proofs.Common.{◌≡◌, Err, map, string_bytes}
-use Rattle.kb_lines.specs.declared.stop.Stop.TheVariants as runs
+use Rattle.kb_runs.specs.declared.run_stop.RunStop.TheVariants as runs
 use Rattle.kb_words.specs.Grammar.{words_of as words_of_grammar}
 use Rattle.kb_apply.specs.LaneRuns.{outside_of}
-use Rattle.kb_loading.specs.Folders.{told_of, words_of}
-use Rattle.kb_endings.specs.declared.stop.Stop.TheVariants as stops
+use Rattle.kb_folder.specs.Folders.{told_of, words_of}
+use Rattle.kb_runs.specs.declared.stop.Stop.TheVariants as stops
 use Rattle.kb_billd.specs.TopCall.{alone, around_of}
 use Rattle.kb_billd.proofs.Causes.{begins_disk, begins_inside, begins_market}
 use Rattle.kb_billd.proofs.Untouched.{rose_over}

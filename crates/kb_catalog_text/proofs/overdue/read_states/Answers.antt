@@ -1,6 +1,6 @@
 use Rattle.std.proofs.Common.{refl}
 use Rattle.kb_catalog_text.specs.OverdueText.{states_in}
-use Rattle.kb_tables.proofs.Told.{told}
+use Rattle.kb_catalog_text.proofs.Told.{told}
 use Rattle.kb_catalog_text.proofs.overdue.read_states.Goals as goal
 
 pub returns-in_err-known_keys : goal.returns-in_err-known_keys

@@ -1,5 +1,5 @@
 use Rattle.std.proofs.Common.{◌≡◌, Some, refl}
-use Rattle.kb_valid.specs.VersionRules.{fault_of}
+use Rattle.kb_catalog.specs.VersionRules.{fault_of}
 use Rattle.kb_catalog_text.proofs.reading.judged_version.Goals as goal
 
 pub returns-in-Err-clause-fault : goal.returns-in-Err-clause-fault

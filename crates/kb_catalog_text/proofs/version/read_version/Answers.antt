@@ -1,6 +1,6 @@
 use Rattle.std.proofs.Common.{refl}
 use Rattle.kb_catalog_text.specs.CatalogText.{version_in}
-use Rattle.kb_tables.proofs.Told.{told}
+use Rattle.kb_catalog_text.proofs.Told.{told}
 use Rattle.kb_catalog_text.proofs.version.read_version.Goals as goal
 
 pub returns-in_err-known_keys : goal.returns-in_err-known_keys

@@ -1,9 +1,9 @@
 -- The rules decide for the plan and the phase.
 use Rattle.std.proofs.Common.{◌≡◌, Some, subst, sym, ap, ◌∙◌}
-use Rattle.kb_plans.specs.declared.ask.PlanAsk.{PlanAsk}
-use Rattle.kb_plans.specs.declared.rules.PlanCase.{PlanCase}
-use Rattle.kb_plans.specs.declared.words.BillingAlign.{BillingAlign}
-use Rattle.kb_plans.specs.Cases.{first_match, fits_plan}
+use Rattle.kb_catalog.specs.declared.ask.PlanAsk.{PlanAsk}
+use Rattle.kb_catalog.specs.declared.rules.PlanCase.{PlanCase}
+use Rattle.kb_catalog.specs.declared.words.BillingAlign.{BillingAlign}
+use Rattle.kb_catalog.specs.Cases.{first_match, fits_plan}
 use Rattle.kb_due.specs.Governing.{Choice}
 use Rattle.kb_due.specs.CycleDays.{ask_of}
 use Rattle.kb_due.proofs.cycle_day.billing_align.Goals as goal

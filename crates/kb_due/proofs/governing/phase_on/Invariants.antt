@@ -1,7 +1,7 @@
 -- What is left gives, with the phase that was found, what all phases give; and what was found has begun.
 use Rattle.std.proofs.Common.{◌≡◌, ◌≤◌, drop, map, IfSome}
 use Rattle.kb_days.specs.Calendar.{first_day}
-use Rattle.kb_plans.specs.declared.phase.Phase.{Phase}
+use Rattle.kb_catalog.specs.declared.phase.Phase.{Phase}
 use Rattle.kb_align.specs.declared.phases.PhaseAt.{PhaseAt}
 use Rattle.kb_align.specs.Phases.{phase_on}
 use Rattle.kb_align.proofs.Starts.{last_begun}

@@ -1,6 +1,6 @@
 -- What was added stays when more is added.
 use Rattle.std.proofs.Common.{All, subst, ap, List}
-use Rattle.kb_valid.specs.declared.version.Version.{Version}
+use Rattle.kb_catalog.specs.declared.version.Version.{Version}
 use Rattle.kb_due.specs.Facts.{FactsValue}
 use Rattle.kb_events.specs.Private.Cuts.{HasEntry, KeepsDays}
 use Rattle.kb_events.proofs.AmongDays.{KeepsDays-trans, HasEntries-more, IfSome-more, HasLeadOf-more}

@@ -2,7 +2,7 @@
 use Rattle.std.proofs.Common.{◌+◌, ℕ, List, drop, map, Option, Some, IfSome, subst, sym}
 use Rattle.std.proofs.lemmas.List.{drop_all}
 use Rattle.std.proofs.lemmas.List.Elements.{All-cons, All-nil}
-use Rattle.kb_plans.specs.declared.phase.Phase.{Phase}
+use Rattle.kb_catalog.specs.declared.phase.Phase.{Phase}
 use Rattle.kb_align.specs.Phases.{starts_from, phase_starts}
 use Rattle.kb_events.specs.Private.Cuts.{HasDay, HasStarts}
 use Rattle.kb_events.proofs.AmongDays.{KeepsDays-refl, KeepsDays-trans, IfSome-more}

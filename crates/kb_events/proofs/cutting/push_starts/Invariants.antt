@@ -1,6 +1,6 @@
 -- What holds of the starts that are left holds of all, among whichever days keep those so far.
 use Rattle.std.proofs.Common.{ℕ, List, drop, map}
-use Rattle.kb_plans.specs.declared.phase.Phase.{Phase}
+use Rattle.kb_catalog.specs.declared.phase.Phase.{Phase}
 use Rattle.kb_align.specs.Phases.{starts_from, phase_starts}
 use Rattle.kb_events.specs.Private.Cuts.{HasStarts, KeepsDays}
 use Rattle.kb_events.proofs.cutting.push_starts.Given as goal

@@ -3,7 +3,7 @@ use Rattle.std.proofs.Common.{refl, sym, subst}
 use Rattle.kb_book.specs.Worlds.{WorldValue}
 use Rattle.kb_account.specs.declared.next.Prepared.{Prepared}
 use Rattle.kb_account.specs.Prepares.{IfNew}
-use Rattle.kb_laws.specs.BilledBooks.{IsBilled}
+use Rattle.kb_book.specs.BilledBooks.{IsBilled}
 use Rattle.kb_machine.proofs.machine.planned_on.Goals as goal
 
 pub returns-in-Next-clause-fits : goal.returns-in-Next-clause-fits

@@ -1,5 +1,5 @@
 use Rattle.std.proofs.Common.{◌≡◌, None, subst}
-use Rattle.kb_valid.specs.declared.version.Version.{Version}
+use Rattle.kb_catalog.specs.declared.version.Version.{Version}
 use Rattle.kb_book.specs.Rows.{first_refusal}
 use Rattle.kb_machine.specs.Texts.{catalog_rows}
 use Rattle.kb_machine.proofs.CatalogRows.{other_rows}

@@ -1,5 +1,5 @@
 use Rattle.std.proofs.Common.{List, subst}
-use Rattle.kb_log.specs.Entries.{Entry}
+use Rattle.kb_codec.specs.Entries.{Entry}
 use Rattle.kb_lane.specs.Lanes.{machine_of}
 use Rattle.kb_make.specs.Makes.{Sends}
 use Rattle.kb_make.proofs.Made.{of_value, summary_made}

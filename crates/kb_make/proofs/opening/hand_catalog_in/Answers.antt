@@ -1,6 +1,6 @@
 use Rattle.std.proofs.Common.{ap, ◌∙◌}
-use Rattle.kb_commands.specs.declared.command.Command.{Command}
-use Rattle.kb_machine.specs.Machines.{is_text}
+use Rattle.kb_codec.specs.declared.command.Command.{Command}
+use Rattle.kb_codec.specs.Senders.{is_text}
 use Rattle.kb_machine.specs.Histories.{entry_after}
 use Rattle.kb_lane.specs.Lanes.{machine_of}
 use Rattle.kb_make.proofs.ShopTexts.{where_ok}

@@ -1,7 +1,7 @@
 use Rattle.std.proofs.Common.{◌≡◌, ℕ, subst}
 use Rattle.kb_machine.specs.Histories.{replay}
 use Rattle.kb_lane.specs.Lanes.{machine_of}
-use Rattle.kb_founding.specs.Foundings.{first_commands}
+use Rattle.kb_folder.specs.Foundings.{first_commands}
 use Rattle.kb_make.proofs.ShopTexts.{are_both, handed_in}
 use Rattle.kb_make.proofs.opening.shop_lane.Goals as goal
 

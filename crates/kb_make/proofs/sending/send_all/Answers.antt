@@ -1,5 +1,5 @@
 use Rattle.std.proofs.Common.{◌≡◌, ◌≤◌, suc, List, length, arith, refl, ap, subst}
-use Rattle.kb_log.specs.Entries.{Entry}
+use Rattle.kb_codec.specs.Entries.{Entry}
 use Rattle.kb_lane.specs.Lanes.{machine_of}
 use Rattle.kb_make.specs.Private.Sending.{Completes}
 use Rattle.kb_make.proofs.Sent.{all_sent, counted, none_sent, one_sent, seeded_callers}

@@ -1,6 +1,6 @@
 use Rattle.std.proofs.Common.{◌≡◌, drop, map}
 use Rattle.std.specs.Prelude.{string_bytes}
-use Rattle.kb_options.specs.Options.{options_of, word_of}
+use Rattle.kb_words.specs.Options.{options_of, word_of}
 use Rattle.kb_words.specs.Private.Words.{options_with}
 use Rattle.kb_words.proofs.options.options_of.Given as goal
 

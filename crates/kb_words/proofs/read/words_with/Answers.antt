@@ -1,9 +1,9 @@
 use Rattle.std.proofs.Common.{◌≡◌, ◌∙◌, true, ap, map, subst, sym, Option}
 use Rattle.std.specs.Prelude.{string_bytes}
 use Rattle.kb_words.specs.declared.words.Words.{Words}
-use Rattle.kb_options.specs.declared.setting.Setting.{Setting}
-use Rattle.kb_options.specs.Commands.{settings_of}
-use Rattle.kb_options.specs.Options.{are_options_of, value_of}
+use Rattle.kb_words.specs.declared.setting.Setting.{Setting}
+use Rattle.kb_words.specs.Commands.{settings_of}
+use Rattle.kb_words.specs.Options.{are_options_of, value_of}
 use Rattle.kb_words.specs.Private.Written.{written_of}
 use Rattle.kb_words.specs.Private.Reading.{IsRead}
 use Rattle.kb_words.proofs.Reread.{words_with-parsed, words_with-taken}

@@ -1,6 +1,6 @@
 use Rattle.std.proofs.Common.{◌≡◌, ◌++◌, drop, map}
 use Rattle.std.specs.Prelude.{string_bytes}
-use Rattle.kb_options.specs.Options.{value_of}
+use Rattle.kb_words.specs.Options.{value_of}
 use Rattle.kb_words.specs.Private.Written.{written_of}
 use Rattle.kb_words.proofs.written.written_of.Given as goal
 

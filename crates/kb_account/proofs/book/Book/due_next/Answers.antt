@@ -3,7 +3,7 @@ use Rattle.std.proofs.Common.{◌≡◌, None, sym, subst}
 use Rattle.kb_book.specs.Books.{BookValue}
 use Rattle.kb_book.specs.Rows.{first_refusal}
 use Rattle.kb_book.specs.Steps.{rows_of}
-use Rattle.kb_laws.proofs.DueCommands.{next_due-accepted}
+use Rattle.kb_book.proofs.DueCommands.{next_due-accepted}
 use Rattle.kb_account.specs.Private.States.{value_of}
 use Rattle.kb_account.proofs.book.Book.due_next.Goals as goal
 

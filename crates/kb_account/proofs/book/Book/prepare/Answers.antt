@@ -3,11 +3,11 @@ use Rattle.std.proofs.Common.{◌≡◌, Ok, sym, subst, ◌∙◌}
 use Rattle.kb_book.specs.Books.{BookValue}
 use Rattle.kb_book.specs.Rows.{IsUnprepared}
 use Rattle.kb_book.specs.Steps.{Outcome, step}
-use Rattle.kb_laws.specs.BilledBooks.{IsBilled, IsEven}
-use Rattle.kb_laws.specs.AddedItems.{AddsFrom, GoOn}
-use Rattle.kb_laws.proofs.AcceptedCommands.{billed-accepted, adds-accepted-from, items-accepted}
-use Rattle.kb_laws.proofs.AcceptedCommands.{even-accepted}
-use Rattle.kb_laws.proofs.RepeatedCommands.{repeat-step}
+use Rattle.kb_book.specs.BilledBooks.{IsBilled, IsEven}
+use Rattle.kb_book.specs.AddedItems.{AddsFrom, GoOn}
+use Rattle.kb_book.proofs.AcceptedCommands.{billed-accepted, adds-accepted-from, items-accepted}
+use Rattle.kb_book.proofs.AcceptedCommands.{even-accepted}
+use Rattle.kb_book.proofs.RepeatedCommands.{repeat-step}
 use Rattle.kb_account.specs.Prepares.{refusal_by}
 use Rattle.kb_account.specs.Private.States.{value_of}
 use Rattle.kb_account.proofs.PreparedSteps.{step-kept, step-accepted, step-reused, step-refused}

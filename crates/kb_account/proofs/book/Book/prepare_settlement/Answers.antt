@@ -3,8 +3,8 @@ use Rattle.std.proofs.Common.{◌≡◌, Ok, subst}
 use Rattle.kb_book.specs.Books.{BookValue}
 use Rattle.kb_book.specs.Rows.{IsUnprepared}
 use Rattle.kb_book.specs.Steps.{Outcome, step}
-use Rattle.kb_laws.specs.BilledBooks.{IsBilled}
-use Rattle.kb_laws.proofs.AcceptedCommands.{billed-accepted}
+use Rattle.kb_book.specs.BilledBooks.{IsBilled}
+use Rattle.kb_book.proofs.AcceptedCommands.{billed-accepted}
 use Rattle.kb_account.specs.Prepares.{refusal_by}
 use Rattle.kb_account.specs.Private.States.{value_of}
 use Rattle.kb_account.proofs.SettledSteps.{step-settled, step-unsettled}

@@ -1,7 +1,7 @@
 -- The sums of a book that is sound fit.
 use Rattle.std.proofs.Common.{arith}
 use Rattle.std.proofs.lemmas.Int.{ints}
-use Rattle.kb_laws.proofs.BoundedSums.{charged-bounded, paid-bounded, credit-bounded, unpaid-bounded}
+use Rattle.kb_book.proofs.BoundedSums.{charged-bounded, paid-bounded, credit-bounded, unpaid-bounded}
 use Rattle.kb_account.specs.Private.States.{value_of}
 use Rattle.kb_account.proofs.book.Book.sums.Goals as goal
 

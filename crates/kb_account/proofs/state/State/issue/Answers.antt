@@ -1,7 +1,7 @@
 -- What is charged, with or without a new subscription.
 use Rattle.std.specs.Arc.{arc_value}
 use Rattle.std.proofs.Common.{◌+◌, ◌∷◌, ◌++◌, [], List, ap, ◌∙◌, length}
-use Rattle.kb_book.specs.Issues.{SubscriptionItems, no_items}
+use Rattle.kb_tree.specs.Issues.{SubscriptionItems, no_items}
 use Rattle.kb_account.proofs.StartedCharges.{started_below, same_below}
 use Rattle.kb_account.proofs.state.State.issue.Goals as goal
 

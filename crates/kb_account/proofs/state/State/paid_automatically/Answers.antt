@@ -5,7 +5,7 @@ use Rattle.kb_payment.specs.PaymentSums.{PaymentsValue, attempt_of}
 use Rattle.kb_payment.specs.PaymentEdits.{purchase_of, amount_of, purchased}
 use Rattle.kb_book.specs.Edits.{auto_key}
 use Rattle.kb_book.specs.PaymentRows.{balance_at}
-use Rattle.kb_laws.proofs.FreshKeys.{fresh-due}
+use Rattle.kb_book.proofs.FreshKeys.{fresh-due}
 use Rattle.kb_account.proofs.PaymentMoves.{new-moved}
 use Rattle.kb_account.proofs.state.State.paid_automatically.Goals as goal
 

@@ -4,7 +4,7 @@ use Rattle.std.proofs.lemmas.Int.{ints}
 use Rattle.std.specs.Arc.{arc_value}
 use Rattle.kb_account.specs.declared.begun.Move.{Move}
 use Rattle.kb_account.specs.Private.Begins.{HasMoved}
-use Rattle.kb_laws.proofs.InvoicedAttempts.{invoiced-found}
+use Rattle.kb_book.proofs.InvoicedAttempts.{invoiced-found}
 use Rattle.kb_account.proofs.PaymentMoves.{settle-moved}
 use Rattle.kb_account.proofs.state.State.settle.Goals as goal
 

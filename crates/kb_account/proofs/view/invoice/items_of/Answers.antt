@@ -1,6 +1,6 @@
 -- One item more; and at the end all of them.
 use Rattle.std.proofs.Common.{◌≤◌, ◌++◌, ap, List, length, arith}
-use Rattle.kb_account.specs.declared.view.invoice.ItemView.{ItemView}
+use Rattle.kb_book.specs.declared.views.ItemView.{ItemView}
 use Rattle.kb_account.specs.Views.{items_from}
 use Rattle.kb_account.proofs.ShownItems.{items-step, items-end}
 use Rattle.kb_account.proofs.view.invoice.items_of.Goals as goal

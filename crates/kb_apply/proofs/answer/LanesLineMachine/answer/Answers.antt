@@ -1,5 +1,5 @@
 use Rattle.std.proofs.Common.{Ok, Err, refl}
-use Rattle.kb_tell.proofs.Lines.{on_err, on_ok}
+use Rattle.kb_json.proofs.Lines.{on_err, on_ok}
 use Rattle.kb_apply.proofs.answer.LanesLineMachine.answer.Goals as goal
 
 pub returns-in-Ok-clause-ok : goal.returns-in-Ok-clause-ok

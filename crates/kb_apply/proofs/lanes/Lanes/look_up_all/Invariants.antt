@@ -1,5 +1,5 @@
 use Rattle.std.proofs.Common.{◌≡◌, ◌-◌, length}
-use Rattle.kb_reply.specs.declared.step.Step.{Step}
+use Rattle.kb_book.specs.declared.step.Step.{Step}
 use Rattle.kb_apply.specs.LaneRuns.{outside_of, LanesValue, LookUpFrom}
 use Rattle.kb_apply.proofs.lanes.Lanes.look_up_all.Given as goal
 

@@ -1,6 +1,6 @@
 use Rattle.std.proofs.Common.{length, ap, subst, ◌∙◌}
 use Rattle.kb_desk.specs.Lanes.{lane_of}
-use Rattle.kb_machine.specs.Machines.{account_of, is_text}
+use Rattle.kb_codec.specs.Senders.{is_text, account_of}
 use Rattle.kb_apply.specs.LaneRuns.{outside_of, PerformsAt}
 use Rattle.kb_apply.proofs.Accounts.{no_text}
 use Rattle.kb_apply.proofs.lanes.Lanes.perform.Goals as goal

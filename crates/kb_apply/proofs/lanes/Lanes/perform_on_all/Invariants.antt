@@ -1,5 +1,5 @@
 use Rattle.std.proofs.Common.{◌≡◌, ◌-◌, length}
-use Rattle.kb_reply.specs.declared.reply.LaneReply.{LaneReply}
+use Rattle.kb_book.specs.declared.reply.LaneReply.{LaneReply}
 use Rattle.kb_apply.specs.LaneRuns.{outside_of, LanesValue, TextFrom}
 use Rattle.kb_apply.proofs.lanes.Lanes.perform_on_all.Given as goal
 

@@ -1,9 +1,9 @@
 use Rattle.std.proofs.Common.{[], sym, length}
 use Rattle.std.proofs.lemmas.List.{append-nil}
 use Rattle.kb_apply.specs.LaneRuns.{outside_of}
-use Rattle.kb_lanes.specs.Addressed.{account_on, lanes_on, first_lane}
+use Rattle.kb_apply.specs.Addressed.{account_on, lanes_on, first_lane}
 use Rattle.kb_apply.proofs.LaneLoops.{part_ends}
-use Rattle.kb_tell.proofs.Lines.{on_err, on_ok}
+use Rattle.kb_json.proofs.Lines.{on_err, on_ok}
 use Rattle.kb_apply.proofs.lanes.Lanes.serve.Goals as goal
 
 pub returns-in-Ok-clause-ok : goal.returns-in-Ok-clause-ok

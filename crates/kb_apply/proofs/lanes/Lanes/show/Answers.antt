@@ -1,7 +1,7 @@
 use Rattle.std.proofs.Common.{length, ap, subst, ◌∙◌}
 use Rattle.kb_book.specs.Rows.{IsUnprepared}
 use Rattle.kb_desk.specs.Lanes.{lane_of}
-use Rattle.kb_lanes.proofs.GoneOn.{lane_there}
+use Rattle.kb_desk.proofs.GoneOn.{lane_there}
 use Rattle.kb_apply.proofs.Served.{shown_memory, shown_refusal, shown_view}
 use Rattle.kb_apply.proofs.lanes.Lanes.show.Goals as goal
 

@@ -1,6 +1,6 @@
 use Rattle.std.proofs.Common.{inr, length}
-use Rattle.kb_loading.specs.Folders.{told_of, words_of}
-use Rattle.kb_opening.proofs.Closing.{are_out}
+use Rattle.kb_folder.specs.Folders.{told_of, words_of}
+use Rattle.kb_folder.proofs.Closing.{are_out}
 use Rattle.kb_billd.proofs.Applied.{runs_lanes}
 use Rattle.kb_billd.proofs.command.apply.apply_folder.Goals as goal
 
@@ -15,8 +15,6 @@ run_open-requires-clause-outside g c κs within = are_out
 
 pub returns-in-Ok-clause-applied : goal.returns-in-Ok-clause-applied
 returns-in-Ok-clause-applied g c = inr (
-  c.run_open.result,
-  c.outcome_of.ensures,
   c.in-Ok.ensures.calm,
   runs_lanes g.V.Disk.Disk.honest g.V.Disk.Disk.seen g.V.Disk.Disk.images g.V.Disk.Disk.moment
       g.V.Disk.Disk.left_since g.V.Disk.Disk.fault_count g.M.Gateway.Gateway.asked g.M.Gateway.Gateway.said

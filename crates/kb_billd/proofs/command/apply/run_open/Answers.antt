@@ -1,8 +1,8 @@
 use Rattle.std.proofs.Common.{◌≤◌, ◌<◌, ap, length, subst, sym, ◌∙◌}
 use Rattle.kb_apply.specs.Applying.{Applies}
 use Rattle.kb_apply.specs.LaneRuns.{outside_of, lanes_machine}
-use Rattle.kb_loading.specs.Folders.{told_of, words_of}
-use Rattle.kb_opening.specs.Openings.{AreBack, AskedOnceEach}
+use Rattle.kb_folder.specs.Folders.{told_of, words_of}
+use Rattle.kb_folder.specs.Openings.{AreBack, AskedOnceEach}
 use Rattle.kb_billd.proofs.Applied.{as_many, begun_is}
 use Rattle.kb_billd.proofs.command.apply.run_open.Goals as goal
 

@@ -1,4 +1,4 @@
-use Rattle.kb_loading.specs.Folders.{told_of}
+use Rattle.kb_folder.specs.Folders.{told_of}
 use Rattle.kb_billd.proofs.Founded.{made_by}
 use Rattle.kb_billd.proofs.command.init.init_folder.Goals as goal
 

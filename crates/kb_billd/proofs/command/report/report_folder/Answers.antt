@@ -1,6 +1,6 @@
 use Rattle.std.proofs.Common.{inr, length, sym, ◌∙◌}
-use Rattle.kb_loading.specs.Folders.{told_of, words_of}
-use Rattle.kb_opening.proofs.Closing.{are_out}
+use Rattle.kb_folder.specs.Folders.{told_of, words_of}
+use Rattle.kb_folder.proofs.Closing.{are_out}
 use Rattle.kb_billd.specs.Reports.{said_by}
 use Rattle.kb_billd.proofs.Reported.{printing_no_input, printing_output, reports_lanes}
 use Rattle.kb_billd.proofs.command.report.report_folder.Goals as goal

@@ -2,8 +2,8 @@
 use Rattle.std.proofs.Common.{◌≡◌, ◌++◌, ◌∷◌, [], List, length, map, subst, sym, arith}
 use Rattle.std.proofs.lemmas.Grind.{common_steps}
 use Rattle.std.specs.Arc.{arc_value}
-use Rattle.kb_valid.specs.declared.version.Version.{Version}
-use Rattle.kb_valid.specs.VersionRules.{IsValid}
+use Rattle.kb_catalog.specs.declared.version.Version.{Version}
+use Rattle.kb_catalog.specs.VersionRules.{IsValid}
 use Rattle.kb_catalog.specs.Catalogs.{max_versions, IsCatalog}
 use Rattle.kb_catalog.proofs.Added.{IsCatalog-push}
 use Rattle.kb_catalog.proofs.catalog.Catalog.add.Goals as goal

@@ -1,20 +1,19 @@
 use Rattle.std.proofs.Common.{◌≡◌, refl, sym, ap, subst, ◌∙◌, ◌++◌, ◌∷◌, [], deque_items, drop, map, Some}
 use Rattle.std.proofs.Common.{None, Ok, Err}
-use Rattle.kb_commands.specs.declared.command.Command.TheVariants as kinds
+use Rattle.kb_codec.specs.declared.command.Command.TheVariants as kinds
 use Rattle.kb_machine.specs.Histories.{replay}
 use Rattle.kb_machine.specs.Plans.{changed, change_reply}
 use Rattle.kb_lane.specs.Asking.{asked_for}
 use Rattle.kb_lane.specs.Lanes.{machine_of, IsLane}
-use Rattle.kb_works.specs.Orders.{settled_by}
-use Rattle.kb_works.specs.Private.Settlements.{IsReadyOf}
-use Rattle.kb_works.specs.declared.work.Work.TheVariants as works
+use Rattle.kb_lane.specs.Orders.{settled_by}
+use Rattle.kb_lane.specs.Private.Settlements.{IsReadyOf}
+use Rattle.kb_lane.specs.declared.work.Work.TheVariants as works
 use Rattle.kb_lane.specs.Private.Runs.{SettlesNone}
 use Rattle.kb_lane.proofs.Kept.{lane_asked, lane_frees, lane_grows, lane_stays, own_noted}
-use Rattle.kb_works.proofs.Settled.{chosen_command, unchosen_command, chosen_ready, settled_check}
-use Rattle.kb_lane.proofs.Settling.{order_asked}
-use Rattle.kb_works.proofs.Settled.{failed_history, fault_ready}
-use Rattle.kb_lane.proofs.Settling.{settled_frees, failed_writes}
-use Rattle.kb_lane.proofs.Written.{appended_stands}
+use Rattle.kb_lane.proofs.Settled.{chosen_command, unchosen_command, chosen_ready, settled_check}
+use Rattle.kb_lane.proofs.Settled.{failed_history, fault_ready}
+use Rattle.kb_lane.proofs.Settling.{order_asked, settled_frees, failed_writes}
+use Rattle.kb_lane.proofs.WrittenDown.{appended_stands}
 use Rattle.kb_lane.proofs.lane.Lane.ask.Goals as goal
 
 pub invariant_of-self : goal.invariant_of-self

@@ -1,6 +1,6 @@
 use Rattle.std.proofs.Common.{◌≡◌, ◌++◌, ◌∷◌, drop, deque_items, sym, ap, ◌∙◌}
-use Rattle.kb_works.specs.Works.{work_of}
-use Rattle.kb_works.specs.declared.work.Work.TheVariants as works
+use Rattle.kb_lane.specs.Outbox.{work_of}
+use Rattle.kb_lane.specs.declared.work.Work.TheVariants as works
 use Rattle.kb_lane.proofs.Kept.{lane_looked}
 use Rattle.kb_lane.proofs.lane.Lane.look.Goals as goal
 

@@ -1,7 +1,7 @@
 use Rattle.std.proofs.Common.{◌≡◌, [], false, deque_items, map, Some, None, refl, sym, ap, subst, ◌∙◌}
 use Rattle.std.proofs.lemmas.List.{append-nil}
 use Rattle.kb_book.specs.PaymentRows.{same_status}
-use Rattle.kb_attempts.proofs.SettledAttempts.{settlements_are_new}
+use Rattle.kb_histories.proofs.SettledAttempts.{settlements_are_new}
 use Rattle.kb_lane.specs.Asking.{asked_for, asks_in, attempt_asked}
 use Rattle.kb_lane.specs.Lanes.{machine_of}
 use Rattle.kb_lane.specs.LookingUp.{news}

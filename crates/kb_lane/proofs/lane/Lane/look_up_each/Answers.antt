@@ -1,7 +1,7 @@
 use Rattle.std.proofs.Common.{refl, ◌∙◌}
 use Rattle.kb_lane.specs.Lanes.{machine_of}
 use Rattle.kb_lane.specs.LookingUp.{Looked}
-use Rattle.kb_reply.specs.declared.step.Step.TheVariants as steps
+use Rattle.kb_book.specs.declared.step.Step.TheVariants as steps
 use Rattle.kb_lane.proofs.Going.{itself_then, well_then}
 use Rattle.kb_lane.proofs.LookedWell.{looked_well}
 use Rattle.kb_lane.proofs.LookingUp.{each_then, each_ends, front_open, later_open}

@@ -1,6 +1,6 @@
 use Rattle.std.proofs.Common.{◌≡◌, drop, All}
 use Rattle.kb_gateway.specs.declared.order.Asked.{Asked}
-use Rattle.kb_reply.specs.declared.step.Step.{Step}
+use Rattle.kb_book.specs.declared.step.Step.{Step}
 use Rattle.kb_lane.specs.Asking.{asks_in, attempt_asked}
 use Rattle.kb_lane.specs.Lanes.{LaneValue, StaysItself, machine_of}
 use Rattle.kb_lane.specs.LookingUp.{EachDone, Looked}

@@ -1,5 +1,5 @@
 use Rattle.std.proofs.Common.{ap, ◌∙◌}
-use Rattle.kb_reply.specs.declared.reply.LaneReply.TheVariants as replies
+use Rattle.kb_book.specs.declared.reply.LaneReply.TheVariants as replies
 use Rattle.kb_machine.specs.Histories.{replay}
 use Rattle.kb_machine.specs.Machines.{with_book}
 use Rattle.kb_lane.proofs.Kept.{lane_grows}

@@ -1,7 +1,7 @@
 -- The account that changed is known to be billed.
 use Rattle.std.proofs.Common.{sym, ap, subst}
 use Rattle.kb_book.specs.Worlds.{WorldValue}
-use Rattle.kb_laws.specs.BilledBooks.{IsBilled}
+use Rattle.kb_book.specs.BilledBooks.{IsBilled}
 use Rattle.kb_machine.specs.Machines.{MachineValue}
 use Rattle.kb_machine.specs.Plans.{IsThere}
 use Rattle.kb_machine.proofs.KnownBooks.{put-known}

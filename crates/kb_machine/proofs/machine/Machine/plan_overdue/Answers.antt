@@ -1,8 +1,8 @@
 use Rattle.std.proofs.Common.{◌≡◌, ℕ, List, length, ap, subst, ◌∙◌}
 use Rattle.std.specs.FinMap.{find, entries}
 use Rattle.kb_sharing.specs.Keys.{by_words}
-use Rattle.kb_commands.specs.declared.command.Command.TheVariants as kinds
-use Rattle.kb_codec.specs.Commands.{spelling}
+use Rattle.kb_codec.specs.declared.command.Command.TheVariants as kinds
+use Rattle.kb_codec.specs.CommandBytes.{spelling}
 use Rattle.kb_book.specs.Rows.{IsUnprepared}
 use Rattle.kb_machine.specs.Judged.{refusal_in, New}
 use Rattle.kb_machine.specs.Texts.{TextsValue, by_key, with_overdue}

@@ -1,6 +1,6 @@
 -- The account is there, and its book takes the settlement, and is billed.
 use Rattle.std.proofs.Common.{rules, ◌≡◌, Ok, refl, subst}
-use Rattle.kb_laws.specs.BilledBooks.{IsBilled}
+use Rattle.kb_book.specs.BilledBooks.{IsBilled}
 use Rattle.kb_book.specs.Steps.{step}
 use Rattle.kb_machine.specs.Machines.{MachineValue}
 use Rattle.kb_machine.proofs.Settled.{judged-settled}

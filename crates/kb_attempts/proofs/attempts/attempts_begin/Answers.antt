@@ -1,5 +1,0 @@
-use Rattle.kb_attempts.proofs.BegunAttempts as laws
-use Rattle.kb_attempts.proofs.attempts.attempts_begin.Goals as goal
-
-pub returns : goal.returns
-returns c = record { begun = laws.attempts_begin; free = laws.begun_keys_are_free }

@@ -1,5 +1,0 @@
-use Rattle.kb_attempts.proofs.StayingAttempts as laws
-use Rattle.kb_attempts.proofs.attempts.attempts_stay.Goals as goal
-
-pub returns : goal.returns
-returns c = record { stay = laws.attempts_stay; for_good = laws.final_attempts_stay }

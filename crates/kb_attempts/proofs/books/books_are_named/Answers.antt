@@ -1,5 +1,0 @@
-use Rattle.kb_attempts.proofs.NamedBooks as laws
-use Rattle.kb_attempts.proofs.books.books_are_named.Goals as goal
-
-pub returns : goal.returns
-returns c = record { stay = laws.names_stay; replayed = laws.replays_are_named }

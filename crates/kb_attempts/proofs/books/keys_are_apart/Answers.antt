@@ -1,5 +1,0 @@
-use Rattle.kb_attempts.proofs.KeyedBooks as laws
-use Rattle.kb_attempts.proofs.books.keys_are_apart.Goals as goal
-
-pub returns : goal.returns
-returns c = record { replayed = laws.replays_are_keyed }

@@ -1,5 +1,0 @@
-pub mod CellCosts
-pub mod Pieces
-pub mod NumberedItems
-pub mod Issued
-pub mod LinePushes

@@ -1,5 +1,0 @@
-mod BillKeys
-mod BilledAccounts
-mod Handled
-mod TallySums
-mod WorkBounds

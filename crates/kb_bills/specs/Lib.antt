@@ -1,4 +1,0 @@
-pub mod Drains
-pub mod Tallies
-pub mod Bills
-pub mod WorkBounds

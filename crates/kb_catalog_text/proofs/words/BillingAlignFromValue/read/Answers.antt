@@ -1,0 +1,4 @@
+use Rattle.kb_catalog_text.proofs.words.BillingAlignFromValue.read.Goals as goal
+
+pub returns : goal.returns
+returns c = rw c.word_in.ensures at c.found.ensures

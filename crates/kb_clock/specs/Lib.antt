@@ -1,2 +1,0 @@
-pub mod NamedDays
-pub mod Times

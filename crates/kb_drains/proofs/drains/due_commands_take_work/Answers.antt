@@ -1,5 +1,0 @@
-use Rattle.kb_drains.proofs.TakenWork as laws
-use Rattle.kb_drains.proofs.drains.due_commands_take_work.Goals as goal
-
-pub returns : goal.returns
-returns c = laws.due_commands_take_work

@@ -1,5 +1,0 @@
-pub mod OwnWork
-pub mod BilledMachines
-pub mod DueWork
-pub mod SettledWork
-pub mod NamedWork

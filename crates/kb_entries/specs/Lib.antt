@@ -1,3 +1,0 @@
-pub mod CatalogEntries
-pub mod StateEntries
-pub mod SmallEntries

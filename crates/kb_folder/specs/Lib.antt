@@ -1,0 +1,5 @@
+pub mod Folders
+pub mod Foundings
+pub mod OneLane
+pub mod Openings
+pub mod Private

@@ -1,0 +1,107 @@
+-- Lanes of a folder, opened from a vault and given back.
+use Rattle.std.specs.Prelude.{ℕ, ◌≡◌, ◌≢◌, ◌≤◌, ◌<◌, ◌⊎◌, true, false, IsTrue, ⊤, List, length, slice_get}
+use Rattle.std.specs.Prelude.{Option, Some, None, IfSome}
+use Rattle.kb_base.specs.Faults.{Rose}
+use Rattle.kb_disk.specs.Places.{is_among, SameLanes, SameFiles}
+use Rattle.kb_journal.specs.Format.{StandsFor}
+use Rattle.kb_journal.specs.Reading.{number_at}
+use Rattle.kb_gateway.specs.declared.order.Asked.{Asked}
+use Rattle.kb_codec.specs.Entries.{History, payloads}
+use Rattle.kb_lane.specs.Logs.{StandsForLog}
+use Rattle.kb_machine.specs.Machines.{no_machine}
+use Rattle.kb_machine.specs.Histories.{AreNewFrom}
+use Rattle.kb_lane.specs.Asking.{WasAskedOnce}
+use Rattle.kb_lane.specs.Lanes.{LaneValue, opened_of}
+use Rattle.kb_lane.specs.Loads.{IsNoLane}
+use Rattle.kb_folder.specs.declared.unopened.Unopened.{Unopened}
+use Rattle.kb_folder.specs.declared.unopened.Unopened.TheVariants.{Disk, NoMemory, Journal, Market}
+use Rattle.kb_folder.specs.Folders.{VaultTold, DiskWords, with_lanes}
+use Rattle.kb_folder.specs.OneLane.{IsOpened, TellsNoOther}
+
+-- The first lanes of a folder are open, of so many: the one at each place has its number, and is out.
+-- Nothing else has changed in the vault, and no call failed.
+pub record AreOpened {D G : Type 0} (words : DiskWords D) (folder : List ℕ) (count : ℕ) (old new : VaultTold)
+    (lanes : List (LaneValue D G)) : Type 0 where
+  pub each : (place : ℕ) (lane : LaneValue D G) → slice_get lanes place ≡ Some lane
+      → IsOpened words count place (old.lane_bytes folder place) lane
+  pub out : SameLanes new.is_out (with_lanes old.is_out folder (length lanes) true)
+  pub bytes : SameLanes new.lane_bytes (with_lanes old.lane_bytes folder (length lanes) None)
+  pub files : SameFiles new.file_bytes old.file_bytes
+  pub calm : new.faults ≡ old.faults
+
+-- the gateway of each lane serves the lane of its place
+abbrev pub AreServed : {D G : Type 0} → (G → ℕ → Type 0) → List (LaneValue D G) → Type 0
+AreServed serves lanes = (place : ℕ) (lane : LaneValue _ _) → slice_get lanes place ≡ Some lane
+    → serves lane.gateway place
+
+-- Lanes of a folder were given back, the one at each place as that of its number: none of them is out any
+-- more, and each has the bytes that its disk reads, which stand for its log if the disk is honest. A disk
+-- that has failed, as that of a lane that has stopped, raises the vault's count; if none has, the count
+-- stays.
+pub record AreBack {D G : Type 0} (words : DiskWords D) (folder : List ℕ) (old new : VaultTold)
+    (lanes : List (LaneValue D G)) : Type 0 where
+  pub inside : SameLanes new.is_out (with_lanes old.is_out folder (length lanes) false)
+  pub bytes : (place : ℕ) (lane : LaneValue D G) → slice_get lanes place ≡ Some lane
+      → IfSome (new.lane_bytes folder place) (λ bytes. bytes ≡ words.seen lane.log.journal.disk)
+  pub stand : (place : ℕ) (lane : LaneValue D G) → slice_get lanes place ≡ Some lane
+      → IsTrue (words.honest lane.log.journal.disk)
+      → IfSome (new.lane_bytes folder place) (StandsForLog lane.log)
+  pub others : (this_folder : List ℕ) (this : ℕ) → is_among folder (length lanes) this_folder this ≡ false
+      → new.lane_bytes this_folder this ≡ old.lane_bytes this_folder this
+  pub files : SameFiles new.file_bytes old.file_bytes
+  pub risen : (place : ℕ) (lane : LaneValue D G) → slice_get lanes place ≡ Some lane
+      → 0 < words.fault_count lane.log.journal.disk → Rose old.faults new.faults
+  pub stopped : (place : ℕ) (lane : LaneValue D G) → slice_get lanes place ≡ Some lane
+      → lane.log.journal.stopped ≡ true → Rose old.faults new.faults
+  pub calm : ((place : ℕ) (lane : LaneValue D G) → slice_get lanes place ≡ Some lane
+      → words.fault_count lane.log.journal.disk ≡ 0) → new.faults ≡ old.faults
+  pub rising : old.faults ≤ new.faults
+
+-- The gateway of each lane, if it tells what it was asked, was asked for no payment twice, provided that
+-- before the lane was opened it was asked once each, for attempts that the lane had then.
+abbrev pub AskedOnceEach : {D G : Type 0} → (G → Option (List Asked)) → List (LaneValue D G) → Type 0
+AskedOnceEach asked lanes = (place : ℕ) (lane : LaneValue _ _) → slice_get lanes place ≡ Some lane
+    → WasAskedOnce (opened_of lane) (asked lane.gateway) lane.own
+
+-- Nothing was opened in a folder: the same lanes are out as before, and no lane has other bytes.
+pub record IsAsBefore (folder : List ℕ) (old new : VaultTold) : Type 0 where
+  pub out : SameLanes new.is_out old.is_out
+  pub bytes : (this_folder : List ℕ) (this : ℕ)
+      → TellsNoOther (old.lane_bytes this_folder this) (new.lane_bytes this_folder this)
+  pub others : (this_folder : List ℕ) (this : ℕ) → is_among folder 64 this_folder this ≡ false
+      → new.lane_bytes this_folder this ≡ old.lane_bytes this_folder this
+  pub files : SameFiles new.file_bytes old.file_bytes
+  pub rising : old.faults ≤ new.faults
+
+-- the header of a lane tells another number of lanes than that of lane 0
+abbrev pub TellsOtherLanes : Option (List ℕ) → List ℕ → Type 0
+TellsOtherLanes first bytes = IfSome first (λ first. number_at 8 bytes ≢ number_at 8 first)
+
+-- Why no lanes are opened: the vault or a disk of it failed; or memory ran out; or the bytes of this lane
+-- are no lane, which shows at this place, or are one of another number of lanes; or the market failed.
+abbrev pub IsCause : List ℕ → VaultTold → VaultTold → ℕ → ℕ → Unopened → Type 0
+IsCause folder old new market_old market_new Disk = Rose old.faults new.faults × (market_new ≡ market_old)
+IsCause folder old new market_old market_new NoMemory = (new.faults ≡ old.faults) × (market_new ≡ market_old)
+IsCause folder old new market_old market_new (Journal lane at) =
+    IfSome (old.lane_bytes folder lane) (λ bytes.
+    IsNoLane lane bytes at ⊎ ((at ≡ 8) × TellsOtherLanes (old.lane_bytes folder 0) bytes))
+    × (new.faults ≡ old.faults) × (market_new ≡ market_old)
+IsCause folder old new market_old market_new Market = (new.faults ≡ old.faults) × Rose market_old market_new
+
+-- the bytes are those of the lane of a number, of so many: they stand for commands, each new to those
+-- before it
+abbrev pub IsLaneOf : ℕ → ℕ → List ℕ → Type 0
+IsLaneOf count number bytes = (history : History) × StandsFor count number (payloads history) bytes
+    × AreNewFrom no_machine history
+
+-- and so many are told by lane 0
+abbrev pub IsLaneBeside : Option (List ℕ) → ℕ → List ℕ → Type 0
+IsLaneBeside first number bytes = (count : ℕ) × IsLaneOf count number bytes
+    × IfSome first (λ first. number_at 8 first ≡ count)
+
+-- The lane that is told is the first one that can't be opened: each one before it is a lane, of as many as
+-- lane 0 tells.
+abbrev pub IsFirstOfThem : List ℕ → VaultTold → Unopened → Type 0
+IsFirstOfThem folder old (Journal lane at) = (place : ℕ) → place < lane
+    → IfSome (old.lane_bytes folder place) (IsLaneBeside (old.lane_bytes folder 0) place)
+IsFirstOfThem folder old other = ⊤

@@ -1,0 +1,5 @@
+pub mod AllLanes
+pub mod Faults
+pub mod Readings
+pub mod Runs
+pub mod Unmade

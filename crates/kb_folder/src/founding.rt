@@ -1,0 +1,62 @@
+//! All lanes of a folder, made with both texts.
+ghost use Rattle.std.specs.Prelude.{◌≡◌, ◌≤◌, ◌<◌, ◌+◌, ℕ, false, Err, IfSome, OnOk};
+ghost use Rattle.kb_catalog_text.specs.declared.fault.TextFault.{TextFault as AnyTextFault};
+ghost use Rattle.kb_catalog_text.specs.Texts.{CatalogText, OverdueText};
+ghost use Rattle.kb_machine.specs.Histories.{AreNewFrom, replay};
+ghost use Rattle.kb_machine.specs.Machines.{no_machine};
+ghost use Rattle.kb_disk.specs.Places.{SameFiles, SameLanes};
+ghost use Rattle.kb_folder.specs.Foundings.{first_commands, first_world, text_fault, TellsFault};
+ghost use Rattle.kb_folder.specs.Foundings.{FoundsWith, IsLeft, SameFrom, CountsFaults};
+
+use crate::lanes::found_each;
+use crate::texts::both_records;
+use crate::unfounded::Unfounded;
+use kb_days::Day;
+use kb_disk::Vault;
+use std::alloc::Global;
+
+/// Makes so many lanes in a folder, each with the same two commands: the catalog text of a file, and the
+/// overdue text of another, both under the key `init` and on one day. The catalog text is judged before the
+/// other file is read. A fault leaves the lanes that were made before it.
+#[tactic(auto, using(crate::proofs::Accepted::both_new, crate::proofs::Accepted::both_said))]
+pub fn found_lanes<V: Vault>(
+    alloc: Global,
+    vault: &mut V,
+    today: Day,
+    folder: &str,
+    lanes: u32,
+    catalog: &str,
+    overdue: &str,
+) -> Result<(), Unfounded>
+    requires inside { (lane : ℕ) → V.is_out vault.old folder.now lane ≡ false }
+    requires few_lanes { lanes ≤ 64 }
+    ensures founded { OnOk result (FoundsWith today folder.now lanes lanes lanes
+        (V.file_bytes vault.old catalog.now) (V.file_bytes vault.old overdue.now) (V.lane_bytes vault.old)
+        (V.lane_bytes vault.new)) }
+    ensures accepted { (version : CatalogText) (states : OverdueText)
+        → AreNewFrom no_machine (first_commands today version states) }
+    ensures said { (version : CatalogText) (states : OverdueText)
+        → (replay (first_commands today version states)).texts.world ≡ first_world version states }
+    ensures refused { IfSome (V.file_bytes vault.old catalog.now)
+        (λ version. IfSome (V.file_bytes vault.old overdue.now)
+        (λ states. TellsFault (text_fault version states) result)) }
+    ensures untouched { (fault : AnyTextFault) → result ≡ Err (Unfounded.Text fault)
+        → SameLanes (V.lane_bytes vault.new) (V.lane_bytes vault.old) }
+    ensures not_empty { (lane : ℕ) → result ≡ Err (Unfounded.NotEmpty lane) → (lane < lanes)
+        × IsLeft (V.lane_bytes vault.old folder.now lane) (V.lane_bytes vault.new folder.now lane) }
+    ensures before { (lane : ℕ) → result ≡ Err (Unfounded.NotEmpty lane)
+        → FoundsWith today folder.now lanes lane
+        (lane + 1) (V.file_bytes vault.old catalog.now) (V.file_bytes vault.old overdue.now)
+        (V.lane_bytes vault.old) (V.lane_bytes vault.new) }
+    ensures others { SameFrom folder.now lanes (V.lane_bytes vault.old) (V.lane_bytes vault.new) }
+    ensures same_out { SameLanes (V.is_out vault.new) (V.is_out vault.old) }
+    ensures same_files { SameFiles (V.file_bytes vault.new) (V.file_bytes vault.old) }
+    ensures counted { CountsFaults (V.faults vault.old) (V.faults vault.new) result }
+    ensures rising { V.faults vault.old ≤ V.faults vault.new }
+{
+    let (first, second) = match both_records(alloc, vault, today, catalog, overdue) {
+        Ok(both) => both,
+        Err(fault) => return Err(fault),
+    };
+    found_each(alloc, vault, folder, lanes, &first, &second)
+}

@@ -1,4 +1,0 @@
-mod Accepted
-mod Outcomes
-mod Read
-mod Rooms

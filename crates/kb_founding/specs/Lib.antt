@@ -1,2 +1,0 @@
-pub mod Foundings
-pub mod Private

@@ -1,4 +1,0 @@
-pub mod DecimalNames
-pub mod MonthBounds
-pub mod Counts
-pub mod Sendings

@@ -1,0 +1,15 @@
+pub mod Answers
+pub mod Asked
+pub mod Callers
+pub mod JsonTexts
+pub mod Private
+pub mod Refusals
+pub mod RequestKinds
+pub mod Requests
+pub mod SmallAnswers
+pub mod SmallLines
+pub mod Table
+pub mod Telling
+pub mod Values
+pub mod Words
+pub mod Wrongs

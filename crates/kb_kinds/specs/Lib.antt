@@ -1,4 +1,0 @@
-pub mod Kinds
-pub mod Table
-pub mod Values
-pub mod Wrongs

@@ -1,4 +1,0 @@
-pub mod Addressed
-pub mod Continuing
-pub mod Places
-pub mod Stops

@@ -1,4 +1,0 @@
-pub mod ChunkPlaces
-pub mod ChunkedLists
-pub mod Places
-pub mod TreeSizes

@@ -1,4 +1,0 @@
-pub mod Amongs
-pub mod GivenBack
-pub mod LeftIn
-mod Unloaded

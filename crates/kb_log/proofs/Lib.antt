@@ -1,4 +1,0 @@
-mod Marks
-mod Outcomes
-mod Payloads
-mod Standing

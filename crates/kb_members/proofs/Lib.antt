@@ -1,4 +1,0 @@
-pub mod Readers
-pub mod MemberLaws
-pub mod ShortTexts
-pub mod TextMemberLaws

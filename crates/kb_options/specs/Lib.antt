@@ -1,4 +1,0 @@
-pub mod Commands
-pub mod Options
-pub mod Values
-pub mod Tokens

@@ -1,3 +1,0 @@
-pub mod Digits
-pub mod Fronts
-pub mod Paths

@@ -1,8 +1,0 @@
-use Rattle.std.proofs.Common.{◌≡◌, take, drop}
-use Rattle.kb_base.specs.Lines.{pieces}
-use Rattle.kb_paths.proofs.Fronts.{onto_front}
-use Rattle.kb_paths.proofs.pieces.first_piece.Given as goal
-
-abbrev pub invariant-loop-at : goal.invariant-loop-at
-invariant-loop-at l =
-    pieces l.separator l.bytes ≡ onto_front (take l.at l.bytes) (pieces l.separator (drop l.at l.bytes))

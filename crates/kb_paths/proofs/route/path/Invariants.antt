@@ -1,6 +1,0 @@
-use Rattle.std.proofs.Common.{◌≡◌, ◌++◌, take, drop}
-use Rattle.kb_paths.specs.Routes.{path_of}
-use Rattle.kb_paths.proofs.route.path.Given as goal
-
-abbrev pub invariant-loop-at : goal.invariant-loop-at
-invariant-loop-at l = path_of l.target ≡ take l.at l.target ++ path_of (drop l.at l.target)

@@ -1,2 +1,0 @@
-pub mod StuckRecords
-pub mod Private

@@ -1,5 +1,0 @@
-use Rattle.kb_replays.proofs.RepeatedEntries as laws
-use Rattle.kb_replays.proofs.repeats.keys_stand_once.Goals as goal
-
-pub returns : goal.returns
-returns c = record { once = laws.keys_stand_once }

@@ -1,4 +1,0 @@
-pub mod Openings
-pub mod Keys
-pub mod Repeats
-pub mod OwnCommands

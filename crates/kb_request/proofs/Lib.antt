@@ -1,3 +1,0 @@
-mod AskedCallers
-pub mod Steps
-pub mod FoundMembers

@@ -1,4 +1,0 @@
-pub mod Asked
-pub mod Callers
-pub mod Requests
-pub mod SmallLines

@@ -1,4 +1,0 @@
-pub mod Shapes
-pub mod Rows
-pub mod Places
-pub mod Agreements

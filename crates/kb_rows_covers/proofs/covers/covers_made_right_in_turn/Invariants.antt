@@ -1,5 +1,0 @@
--- The ledger of a blank with one part.
-use Rattle.kb_rows_covers.proofs.covers.covers_made_right_in_turn.Given as goal
-
-abbrev pub ghosts-holds_all : goal.ghosts-holds_all
-ghosts-holds_all g a = record { name = a.blank.name; parts = a.blank.parts }

@@ -1,7 +1,0 @@
--- What was put at the name is found there.
-use Rattle.std.proofs.Common.{rules}
-use Rattle.std.specs.FinMap.{gets}
-use Rattle.kb_rows_sharing.proofs.shared_maps.kept_and_found.Goals as goal
-
-pub returns : goal.returns
-returns c = grind (gets, rules)

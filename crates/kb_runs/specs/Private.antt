@@ -1,0 +1,4 @@
+pub mod Lines
+pub mod Stopping
+
+-- What only private contracts and proofs cite.

@@ -1,6 +1,0 @@
-pub mod JsonTexts
-pub mod Words
-pub mod Refusals
-pub mod Answers
-pub mod SmallAnswers
-pub mod Private

@@ -1,0 +1,9 @@
+use Rattle.std.proofs.Common.{◌≡◌, length}
+use Rattle.std.specs.Io.KnownBytes.{Keeps}
+use Rattle.kb_system.proofs.std_source.read_retrying.Given as goal
+
+-- an interrupted read took nothing
+abbrev pub invariant-loop : goal.invariant-loop
+invariant-loop g l =
+    (length l.buf ≡ length l.initial.buf)
+    × Keeps (g.R.Read.remaining l.initial.reader) (g.R.Read.remaining l.reader)

@@ -1,2 +1,0 @@
-pub mod ReadSteps
-pub mod Told

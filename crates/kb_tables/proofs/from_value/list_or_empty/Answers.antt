@@ -1,4 +1,0 @@
-use Rattle.kb_tables.proofs.from_value.list_or_empty.Goals as goal
-
-pub returns : goal.returns
-returns g c = rw c.new.ensures at c.read_or.ensures

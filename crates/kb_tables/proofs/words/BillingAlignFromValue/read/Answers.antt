@@ -1,4 +1,0 @@
-use Rattle.kb_tables.proofs.words.BillingAlignFromValue.read.Goals as goal
-
-pub returns : goal.returns
-returns c = rw c.word_in.ensures at c.found.ensures

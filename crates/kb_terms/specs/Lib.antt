@@ -1,5 +1,0 @@
-pub mod Wishes
-pub mod Prices
-pub mod Effects
-pub mod Anchors
-pub mod BundleRules

@@ -1,2 +1,0 @@
-mod FoundBooks
-mod AddedSums

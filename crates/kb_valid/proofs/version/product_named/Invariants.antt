@@ -1,9 +1,0 @@
--- The product among those that are left is the product among all.
-use Rattle.std.proofs.Common.{◌≡◌, drop, find, bytes_eq}
-use Rattle.kb_plans.specs.declared.product.Product.{Product}
-use Rattle.kb_valid.proofs.version.product_named.Given as goal
-
-abbrev pub invariant-loop-product : goal.invariant-loop-product
-invariant-loop-product l =
-    find (λ (product : Product). bytes_eq l.name product.name) (drop l.product-index l.products)
-    ≡ find (λ (product : Product). bytes_eq l.name product.name) l.products

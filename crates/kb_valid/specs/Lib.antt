@@ -1,9 +1,0 @@
-pub mod Products
-pub mod Lists
-pub mod Cases
-pub mod VersionRules
-pub mod RuleNumbers
-pub mod SmallVersion
-pub mod SmallLookUps
-pub mod LookUp
-pub mod ValidVersions

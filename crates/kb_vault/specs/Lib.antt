@@ -1,4 +1,0 @@
-pub mod Memory
-pub mod Places
-pub mod Private
-pub mod Vaults

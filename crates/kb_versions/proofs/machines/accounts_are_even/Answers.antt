@@ -1,5 +1,0 @@
-use Rattle.kb_versions.proofs.EvenNow as laws
-use Rattle.kb_versions.proofs.machines.accounts_are_even.Goals as goal
-
-pub returns : goal.returns
-returns c = record { stay = laws.books_stay_even_now; replayed = laws.replays_are_even_now }

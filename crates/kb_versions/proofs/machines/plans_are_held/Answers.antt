@@ -1,6 +1,0 @@
-use Rattle.kb_versions.proofs.HeldBooks as laws
-use Rattle.kb_versions.proofs.machines.plans_are_held.Goals as goal
-
-pub returns : goal.returns
-returns c =
-    record { versions = laws.versions_stay; stay = laws.plans_stay; replayed = laws.replays_have_plans }

@@ -1,0 +1,3 @@
+//! The commands of a seed.
+
+mod seeds;

@@ -1,0 +1,3 @@
+//! The lock: threads that add to one history.
+
+mod threads;

@@ -1,0 +1,4 @@
+//! Doors, through which connections come: in memory, and over TCP.
+
+mod doors;
+mod sockets;

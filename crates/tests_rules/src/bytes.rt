@@ -1,0 +1,5 @@
+//! Faults and lists, bytes in memory, and money.
+
+mod bytes;
+mod lists;
+mod money;

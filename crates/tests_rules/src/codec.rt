@@ -1,0 +1,6 @@
+//! Commands as bytes.
+
+mod bytes;
+mod members;
+mod refused;
+mod texts;

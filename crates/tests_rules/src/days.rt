@@ -1,0 +1,6 @@
+//! Days: their dates, spans and periods, and names.
+
+mod dates;
+mod days;
+mod names;
+mod spans;
