@@ -16,10 +16,8 @@ cd "$(dirname "$0")/.."
 . bench/repository.sh
 
 program=account_times
-libraries='kb_base kb_days kb_lists kb_sharing kb_money kb_shop kb_plans kb_valid kb_catalog kb_overdue
-    kb_align kb_timeline kb_blocking kb_credit kb_payment kb_tables kb_entries kb_catalog_text
-    kb_commands kb_members kb_codec kb_due kb_events kb_tree kb_terms kb_book kb_billing kb_edits
-    kb_laws kb_account kb_samples'
+libraries='kb_base kb_days kb_money kb_sharing kb_catalog kb_align kb_timeline kb_blocking kb_overdue kb_credit
+    kb_payment kb_due kb_events kb_tree kb_catalog_text kb_codec kb_book kb_edits kb_account kb_samples'
 libraries=$(echo $libraries)
 
 write_program() {
@@ -28,15 +26,16 @@ write_program() {
 //! nanoseconds that they took; or how much memory the process held at most, in KB.
 #![tactic(auto)]
 ghost use Rattle.std.specs.Prelude.{◌≡◌, true, IfSome};
-ghost use Rattle.kb_laws.specs.BilledBooks.{IsBilled};
+ghost use Rattle.kb_book.specs.BilledBooks.{IsBilled};
 
 use kb_account::{Book, Prepared, World, auto_key};
 use kb_catalog_text::read_overdue;
 use kb_codec::decode;
-use kb_commands::Command;
+use kb_codec::Command;
 use kb_days::Day;
 use kb_overdue::Config;
-use kb_samples::{SHOP, catalog};
+use kb_catalog_text::SHOP;
+use kb_samples::catalog;
 use std::alloc::Global;
 use std::fs;
 use std::io;
@@ -385,7 +384,7 @@ write_proof() {
 use Rattle.std.proofs.Common.{sym, subst}
 use Rattle.kb_account.specs.declared.next.Prepared.{Prepared}
 use Rattle.kb_account.specs.Prepares.{IfNew}
-use Rattle.kb_laws.specs.BilledBooks.{IsBilled}
+use Rattle.kb_book.specs.BilledBooks.{IsBilled}
 use Rattle.account_times.proofs.apply.Goals as goal
 
 pub returns-in-Ok-Next : goal.returns-in-Ok-Next

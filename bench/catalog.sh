@@ -14,7 +14,7 @@ cd "$(dirname "$0")/.."
 . bench/repository.sh
 
 program=catalog_times
-libraries='kb_base kb_days kb_money kb_plans kb_valid'
+libraries='kb_base kb_days kb_money kb_catalog'
 
 write_program() {
     cat <<'END'
@@ -25,12 +25,8 @@ write_program() {
 use kb_base::Seq;
 use kb_days::{Day, Name, Period, Span};
 use kb_money::{Currency, Minor};
-use kb_plans::{
-    Align, BillingAlign, BillingCase, CancelCase, Category, ChangeAlignmentCase, ChangeAsk,
-    ChangePolicyCase, CreateAlign, CreateCase, Phase, PhaseType, Plan, PlanAsk, PlanCondition,
-    Policy, Price, PriceList, Product, Rules,
-};
-use kb_valid::{Valid, Version};
+use kb_catalog::{Align, BillingAlign, BillingCase, CancelCase, Category, ChangeAlignmentCase, ChangeAsk, ChangePolicyCase, CreateAlign, CreateCase, Phase, PhaseType, Plan, PlanAsk, PlanCondition, Policy, Price, PriceList, Product, Rules};
+use kb_catalog::{Valid, Version};
 use std::alloc::Global;
 use std::io;
 use std::time::Instant;

@@ -13,7 +13,7 @@ cd "$(dirname "$0")/.."
 . bench/repository.sh
 
 program=text_times
-libraries='kb_base kb_days kb_money kb_plans kb_valid kb_overdue kb_tables kb_entries kb_catalog_text toml'
+libraries='kb_base kb_days kb_money kb_catalog kb_overdue kb_catalog_text toml'
 
 # The most memory that a run held.
 peak_memory() {

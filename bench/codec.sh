@@ -13,8 +13,8 @@ cd "$(dirname "$0")/.."
 . bench/repository.sh
 
 program=codec_times
-libraries='kb_base kb_days kb_sharing kb_money kb_plans kb_valid kb_overdue kb_blocking kb_payment
-    kb_tables kb_entries kb_catalog_text kb_commands kb_members kb_codec'
+libraries='kb_base kb_days kb_money kb_sharing kb_catalog kb_blocking kb_overdue kb_payment kb_catalog_text
+    kb_codec'
 libraries=$(echo $libraries)
 
 write_program() {
@@ -26,7 +26,7 @@ write_program() {
 use kb_base::NoMemory;
 use kb_catalog_text::read;
 use kb_codec::{decode, encode};
-use kb_commands::Command;
+use kb_codec::Command;
 use std::alloc::Global;
 use std::io;
 use std::time::Instant;

@@ -12,8 +12,8 @@ cd "$(dirname "$0")/.."
 . bench/repository.sh
 
 program=covers_times
-libraries='kb_base kb_days kb_lists kb_sharing kb_money kb_plans kb_valid kb_catalog kb_align kb_timeline
-    kb_blocking kb_due kb_tree'
+libraries='kb_base kb_days kb_money kb_sharing kb_catalog kb_align kb_timeline kb_blocking kb_credit kb_due
+    kb_events kb_tree'
 libraries=$(echo $libraries)
 
 write_program() {

@@ -15,7 +15,7 @@ cd "$(dirname "$0")/.."
 . bench/repository.sh
 
 program=credit_times
-libraries='kb_base kb_lists kb_sharing kb_days kb_credit'
+libraries='kb_base kb_days kb_sharing kb_credit'
 
 # The most memory that a run held, in KB.
 peak_memory() {

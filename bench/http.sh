@@ -12,7 +12,7 @@ cd "$(dirname "$0")/.."
 . bench/repository.sh
 
 program=http_times
-libraries='kb_base kb_days kb_ports kb_links kb_paths kb_http'
+libraries='kb_base kb_days kb_ports kb_http'
 
 write_program() {
     cat <<'END'
@@ -21,7 +21,7 @@ write_program() {
 #![tactic(auto)]
 
 use kb_http::{Conn, HttpNext, response_bytes};
-use kb_links::PairLink;
+use kb_ports::PairLink;
 use kb_ports::Sips;
 use std::alloc::{AllocError, Global};
 use std::io;

@@ -15,7 +15,7 @@ cd "$(dirname "$0")/.."
 . bench/repository.sh
 
 program=journal_times
-libraries='kb_base kb_ports kb_disk kb_files kb_journal'
+libraries='kb_base kb_days kb_money kb_sharing kb_payment kb_ports kb_disk kb_journal kb_gateway kb_system'
 
 write_program() {
     cat <<'END'
@@ -25,8 +25,9 @@ write_program() {
 
 use kb_base::NoMemory;
 use kb_disk::MemoryDisk;
-use kb_files::FileDisk;
-use kb_journal::{Disk, Journal};
+use kb_system::FileDisk;
+use kb_disk::Disk;
+use kb_journal::Journal;
 use std::alloc::Global;
 use std::env;
 use std::fs;

@@ -14,11 +14,9 @@ cd "$(dirname "$0")/.."
 . bench/repository.sh
 
 program=json_times
-libraries='kb_base kb_days kb_lists kb_sharing kb_money kb_history kb_plans kb_valid kb_catalog kb_overdue
-    kb_align kb_timeline kb_blocking kb_credit kb_payment kb_tables kb_entries kb_catalog_text
-    kb_commands kb_members kb_codec kb_ports kb_disk kb_journal kb_log kb_due kb_events kb_tree
-    kb_terms kb_book kb_reply kb_billing kb_edits kb_laws kb_account kb_machine kb_kinds kb_request
-    kb_say'
+libraries='kb_base kb_days kb_money kb_sharing kb_catalog kb_align kb_timeline kb_blocking kb_overdue kb_credit
+    kb_payment kb_due kb_events kb_tree kb_catalog_text kb_codec kb_ports kb_disk kb_journal kb_gateway
+    kb_book kb_edits kb_account kb_machine kb_histories kb_lane kb_json'
 libraries=$(echo $libraries)
 
 write_program() {
@@ -27,14 +25,14 @@ write_program() {
 //! and the nanoseconds that they took; or how much memory the process held at most, in KB.
 #![tactic(auto)]
 
-use kb_account::{AccountView, View};
+use kb_book::{AccountView, View};
 use kb_base::NoMemory;
 use kb_book::Answer;
 use kb_days::Name;
 use kb_money::Currency;
-use kb_reply::LaneReply;
-use kb_request::read_request;
-use kb_say::{Said, answer_text};
+use kb_book::LaneReply;
+use kb_json::read_request;
+use kb_json::{Said, answer_text};
 use std::alloc::Global;
 use std::fs;
 use std::io;

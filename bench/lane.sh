@@ -14,11 +14,9 @@ cd "$(dirname "$0")/.."
 . bench/repository.sh
 
 program=lane_times
-libraries='kb_base kb_days kb_lists kb_sharing kb_money kb_history kb_plans kb_valid kb_catalog kb_overdue
-    kb_align kb_timeline kb_blocking kb_credit kb_payment kb_tables kb_entries kb_catalog_text
-    kb_commands kb_members kb_codec kb_ports kb_disk kb_journal kb_log kb_gateway kb_due kb_events
-    kb_tree kb_terms kb_book kb_reply kb_billing kb_edits kb_laws kb_account kb_machine kb_replays
-    kb_attempts kb_drains kb_versions kb_records kb_works kb_lane kb_bills'
+libraries='kb_base kb_days kb_money kb_sharing kb_catalog kb_align kb_timeline kb_blocking kb_overdue kb_credit
+    kb_payment kb_due kb_events kb_tree kb_catalog_text kb_codec kb_ports kb_disk kb_journal kb_gateway
+    kb_book kb_edits kb_account kb_machine kb_histories kb_lane'
 libraries=$(echo $libraries)
 
 write_program() {
@@ -27,14 +25,15 @@ write_program() {
 //! nanoseconds that they took; or how much memory the process held at most, in KB.
 #![tactic(auto)]
 
-use kb_bills::drain;
-use kb_commands::{Amount, Charge, Command, OpenAccount};
+use kb_lane::drain;
+use kb_codec::{Amount, Charge, Command, OpenAccount};
 use kb_days::{Bcd, Day, Name};
 use kb_disk::MemoryDisk;
 use kb_gateway::ListGateway;
-use kb_lane::{Lane, LaneReply};
+use kb_book::LaneReply;
+use kb_lane::Lane;
 use kb_money::Currency;
-use kb_reply::Step;
+use kb_book::Step;
 use std::alloc::Global;
 use std::fs;
 use std::io;

@@ -14,7 +14,7 @@ cd "$(dirname "$0")/.."
 . bench/repository.sh
 
 program=lock_times
-libraries='kb_base atomic_table kb_lock'
+libraries='kb_base kb_lock atomic_table'
 
 write_program() {
     cat <<'END'

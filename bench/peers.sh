@@ -15,7 +15,7 @@ cd "$(dirname "$0")/.."
 . bench/repository.sh
 
 program=http_peers
-libraries='kb_base kb_days kb_ports kb_links kb_paths kb_http kb_sockets'
+libraries='kb_base kb_days kb_money kb_sharing kb_payment kb_ports kb_disk kb_http kb_gateway kb_system'
 
 write_program() {
     cat <<'END'
@@ -30,8 +30,9 @@ ghost use Rattle.kb_http.specs.Responses.{IsStatus};
 
 use kb_base::NoMemory;
 use kb_http::{Conn, HttpNext, HttpRequest, response_bytes};
-use kb_paths::{Allow, Route};
-use kb_sockets::{Door, Link, TcpDoor, TcpLink};
+use kb_http::{Allow, Route};
+use kb_ports::{Door, Link};
+use kb_system::{TcpDoor, TcpLink};
 use std::alloc::Global;
 use std::{env, io};
 

@@ -19,8 +19,7 @@ cd "$(dirname "$0")/.."
 . bench/repository.sh
 
 program=pieces_times
-libraries='kb_base kb_days kb_money kb_plans kb_valid kb_catalog kb_align kb_timeline kb_blocking kb_due
-    kb_events'
+libraries='kb_base kb_days kb_money kb_catalog kb_align kb_timeline kb_blocking kb_due kb_events'
 
 write_program() {
     cat <<'END'
@@ -35,13 +34,9 @@ use kb_days::{Bcd, Day, Name, Period, Span};
 use kb_due::Facts;
 use kb_events::pieces;
 use kb_money::{Currency, Minor};
-use kb_plans::{
-    Align, BillingAlign, BillingCase, CancelCase, Category, ChangeAlignmentCase, ChangePolicyCase,
-    CreateAlign, CreateCase, Phase, PhaseType, Plan, PlanCondition, Policy, Price, PriceList,
-    Product, Rules,
-};
+use kb_catalog::{Align, BillingAlign, BillingCase, CancelCase, Category, ChangeAlignmentCase, ChangePolicyCase, CreateAlign, CreateCase, Phase, PhaseType, Plan, PlanCondition, Policy, Price, PriceList, Product, Rules};
 use kb_timeline::{Entry, PlanRef, Timeline};
-use kb_valid::{Valid, Version};
+use kb_catalog::{Valid, Version};
 use std::alloc::Global;
 use std::io;
 use std::time::Instant;

@@ -14,7 +14,7 @@ cd "$(dirname "$0")/.."
 . bench/repository.sh
 
 program=sharing_times
-libraries='kb_base jiff_core kb_days kb_lists kb_sharing'
+libraries='kb_base kb_days kb_sharing jiff_core'
 
 write_program() {
     cat <<'END'
@@ -24,7 +24,7 @@ write_program() {
 
 use kb_base::NoMemory;
 use kb_days::Name;
-use kb_lists::SharedList;
+use kb_sharing::SharedList;
 use kb_sharing::{Key, SharedMap};
 use std::alloc::{AllocGlobal, Global};
 use std::fs;
