@@ -168,9 +168,9 @@ END
 make_repository
 at="$work/crates/$program"
 mkdir -p "$at/proofs/main" "$at/proofs/time"
-cp crates/kb_rows_covers/src/sound_pieces.rt "$at/src"
-cp -r crates/kb_rows_covers/proofs/sound_pieces "$at/proofs"
-grep -rl kb_rows_covers "$at" | xargs sed -i "s/kb_rows_covers/$program/"
+cp crates/tests_due/src/covers/sound_pieces.rt "$at/src"
+cp -r crates/tests_due/proofs/covers/sound_pieces "$at/proofs"
+grep -rl tests_due "$at" | xargs sed -i "s/tests_due.proofs.covers/$program.proofs/; s/tests_due/$program/"
 write_ledger >"$at/proofs/main/Invariants.antt"
 write_start >"$at/proofs/time/Answers.antt"
 take_times
