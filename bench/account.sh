@@ -31,7 +31,7 @@ ghost use Rattle.kb_book.specs.BilledBooks.{IsBilled};
 use kb_account::{Book, Prepared, World, auto_key};
 use kb_catalog_text::read_overdue;
 use kb_codec::decode;
-use kb_codec::Command;
+use kb_codec::{Action, Command};
 use kb_days::Day;
 use kb_overdue::Config;
 use kb_catalog_text::SHOP;
@@ -252,7 +252,7 @@ fn opened(alloc: Global) -> Option<Book> {
 
 fn first_by(alloc: Global, command: &Command) -> Option<Book> {
     match command {
-        Command::OpenAccount(_) => match Book::first(alloc, command) {
+        Command::Act { action: Action::OpenAccount(_), .. } => match Book::first(alloc, command) {
             Ok((book, _)) => Some(book),
             Err(_) => None,
         },

@@ -26,7 +26,7 @@ write_program() {
 #![tactic(auto)]
 
 use kb_lane::drain;
-use kb_codec::{Amount, Charge, Command, OpenAccount};
+use kb_codec::{Action, Amount, Charge, Command, OpenAccount};
 use kb_days::{Bcd, Day, Name};
 use kb_disk::MemoryDisk;
 use kb_gateway::ListGateway;
@@ -131,36 +131,36 @@ fn charge_all(alloc: Global, lane: &mut MemoryLane, accounts: u32, round: u32) -
 }
 
 fn open(alloc: Global, lane: &mut MemoryLane, number: u32) -> u32 {
-    match opening(alloc, number) {
-        Some(opening) => perform_open(alloc, lane, opening),
-        None => 0,
+    match (account(alloc, number), Name::new(b"k1"), opening()) {
+        (Some(account), Some(key), Some(action)) => act(alloc, lane, account, key, action),
+        _ => 0,
     }
 }
 
 fn charge(alloc: Global, lane: &mut MemoryLane, number: u32, round: u32) -> u32 {
-    match charging(alloc, number, round) {
-        Some(charging) => perform_charge(alloc, lane, charging),
-        None => 0,
+    match (account(alloc, number), charge_key(alloc, round), charging()) {
+        (Some(account), Some(key), Some(action)) => act(alloc, lane, account, key, action),
+        _ => 0,
     }
 }
 
-fn opening(alloc: Global, number: u32) -> Option<OpenAccount> {
-    Some(OpenAccount {
-        account: account(alloc, number)?,
-        key: Name::new(b"k1")?,
+fn opening() -> Option<Action> {
+    Some(Action::OpenAccount(OpenAccount {
         currency: Currency::new(b"USD")?,
         bcd: Bcd::new(1)?,
         autopay: false,
-    })
+    }))
 }
 
-fn charging(alloc: Global, number: u32, round: u32) -> Option<Charge> {
-    let key = format!(in alloc; "c{round}").ok()?;
-    Some(Charge {
-        account: account(alloc, number)?,
-        key: Name::new(key.as_bytes())?,
+fn charging() -> Option<Action> {
+    Some(Action::Charge(Charge {
         amount: Amount::new(100)?,
-    })
+    }))
+}
+
+fn charge_key(alloc: Global, round: u32) -> Option<Name> {
+    let key = format!(in alloc; "c{round}").ok()?;
+    Name::new(key.as_bytes())
 }
 
 fn account(alloc: Global, number: u32) -> Option<Name> {
@@ -168,19 +168,17 @@ fn account(alloc: Global, number: u32) -> Option<Name> {
     Name::new(name.as_bytes())
 }
 
-fn perform_open(alloc: Global, lane: &mut MemoryLane, opening: OpenAccount) -> u32 {
+/// An action on an account, and what it leaves to do.
+fn act(alloc: Global, lane: &mut MemoryLane, account: Name, key: Name, action: Action) -> u32 {
     let Ok(today) = kb_days::parse(b"2024-03-01") else {
         return 0;
     };
-    let reply = lane.perform(alloc, today, &Command::OpenAccount(opening));
-    ended(alloc, lane, today, reply)
-}
-
-fn perform_charge(alloc: Global, lane: &mut MemoryLane, charging: Charge) -> u32 {
-    let Ok(today) = kb_days::parse(b"2024-03-01") else {
-        return 0;
+    let command = Command::Act {
+        account,
+        key,
+        action,
     };
-    let reply = lane.perform(alloc, today, &Command::Charge(charging));
+    let reply = lane.perform(alloc, today, &command);
     ended(alloc, lane, today, reply)
 }
 

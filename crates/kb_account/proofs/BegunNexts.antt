@@ -10,14 +10,13 @@ use Rattle.kb_credit.specs.Items.{amount_of}
 use Rattle.kb_credit.specs.InvoiceEdits.{max_sum}
 use Rattle.kb_codec.specs.declared.command.Command.{Command}
 use Rattle.kb_codec.specs.declared.command.Command.TheVariants as kinds
+use Rattle.kb_codec.specs.declared.action.Action.TheVariants as actions
 use Rattle.kb_tree.specs.Numbers.{AreBelow}
 use Rattle.kb_tree.specs.ItemLines.{IsItemLine}
 use Rattle.kb_book.specs.Worlds.{WorldValue}
 use Rattle.kb_book.specs.Books.{BookValue}
-use Rattle.kb_book.specs.Edits.{begun}
+use Rattle.kb_book.specs.Commands.{begun, own_rows, own_lines}
 use Rattle.kb_book.specs.Rows.{first_refusal}
-use Rattle.kb_book.specs.Refusals.{own_rows}
-use Rattle.kb_book.specs.Steps.{own_lines}
 use Rattle.kb_book.specs.SoundBooks.{IsBook}
 use Rattle.kb_book.proofs.BegunBooks.{begun-edited}
 use Rattle.kb_book.proofs.BilledSteps.{edited-matched, were-below}
@@ -43,26 +42,8 @@ begun-below world book edited today command sound is =
 
 -- a command has one line of its own at most
 own-few : (command : Command) → length (own_lines command) ≤ 1
-own-few (kinds.Catalog c) = omega arith
-own-few (kinds.OverdueRules c) = omega arith
-own-few (kinds.OpenAccount c) = omega arith
-own-few (kinds.Create c) = omega arith
-own-few (kinds.Change c) = omega arith
-own-few (kinds.Cancel c) = omega arith
-own-few (kinds.Uncancel c) = omega arith
-own-few (kinds.Pause c) = omega arith
-own-few (kinds.Resume c) = omega arith
-own-few (kinds.Block c) = omega arith
-own-few (kinds.Bill c) = omega arith
-own-few (kinds.Charge c) = omega arith
-own-few (kinds.Credit c) = omega arith
-own-few (kinds.Pay c) = omega arith
-own-few (kinds.Refund c) = omega arith
-own-few (kinds.Chargeback c) = omega arith
-own-few (kinds.Autopay c) = omega arith
-own-few (kinds.Auto c) = omega arith
-own-few (kinds.Settle c) = omega arith
-own-few (kinds.Overdue c) = omega arith
+own-few (kinds.Act account key (actions.Charge c)) = omega arith
+own-few command = omega arith
 
 -- all lines of a command that isn't refused are those of items
 pub all-plain : (world : WorldValue) (book : BookValue) (today : ℕ) (command : Command)

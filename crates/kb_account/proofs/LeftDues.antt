@@ -5,11 +5,12 @@ use Rattle.std.specs.Arc.{arc_value}
 use Rattle.kb_days.specs.Calendar.{first_day, charged_days}
 use Rattle.kb_codec.specs.declared.command.Command.{Command}
 use Rattle.kb_codec.specs.declared.command.Command.TheVariants as kinds
+use Rattle.kb_codec.specs.declared.action.Action.TheVariants as actions
 use Rattle.kb_tree.specs.declared.issue.Issue.{Issue}
 use Rattle.kb_tree.specs.ItemLines.{IsItemLine}
 use Rattle.kb_book.specs.Worlds.{WorldValue}
 use Rattle.kb_book.specs.Books.{BookValue}
-use Rattle.kb_book.specs.Edits.{begun}
+use Rattle.kb_book.specs.Commands.{begun}
 use Rattle.kb_book.specs.Steps.{issue_over}
 use Rattle.kb_book.specs.BilledBooks.{IsBilled}
 use Rattle.kb_book.proofs.NothingDue.{nothing-due}
@@ -21,26 +22,15 @@ pub due-left : (world : WorldValue) (book : BookValue) (today : ℕ) (command : 
     → leaves_due command ≡ true
     → issue_over world (begun world book today command) first_day charged_days
     ≡ issue_over world book first_day charged_days
-due-left world book today (kinds.Catalog c) leaves = absurd (cc)
-due-left world book today (kinds.OverdueRules c) leaves = absurd (cc)
-due-left world book today (kinds.OpenAccount c) leaves = absurd (cc)
-due-left world book today (kinds.Create c) leaves = absurd (cc)
-due-left world book today (kinds.Change c) leaves = absurd (cc)
-due-left world book today (kinds.Cancel c) leaves = absurd (cc)
-due-left world book today (kinds.Uncancel c) leaves = absurd (cc)
-due-left world book today (kinds.Pause c) leaves = absurd (cc)
-due-left world book today (kinds.Resume c) leaves = absurd (cc)
-due-left world book today (kinds.Block c) leaves = absurd (cc)
-due-left world book today (kinds.Bill c) leaves = absurd (cc)
-due-left world book today (kinds.Charge c) leaves = refl
-due-left world book today (kinds.Credit c) leaves = refl
-due-left world book today (kinds.Pay c) leaves = refl
-due-left world book today (kinds.Refund c) leaves = refl
-due-left world book today (kinds.Chargeback c) leaves = refl
-due-left world book today (kinds.Autopay c) leaves = refl
+due-left world book today (kinds.Act account key (actions.Charge c)) leaves = refl
+due-left world book today (kinds.Act account key (actions.Credit c)) leaves = refl
+due-left world book today (kinds.Act account key (actions.Pay c)) leaves = refl
+due-left world book today (kinds.Act account key (actions.Refund c)) leaves = refl
+due-left world book today (kinds.Act account key (actions.Chargeback c)) leaves = refl
+due-left world book today (kinds.Act account key (actions.Autopay c)) leaves = refl
 due-left world book today (kinds.Auto c) leaves = refl
 due-left world book today (kinds.Settle c) leaves = refl
-due-left world book today (kinds.Overdue c) leaves = absurd (cc)
+due-left world book today command leaves = absurd (cc)
 
 -- so what is issued for the book is issued with such a command
 pub issue-left : (world : WorldValue) (book edited : BookValue) (today : ℕ) (command : Command)

@@ -13,16 +13,17 @@ use Rattle.kb_credit.specs.InvoiceEdits.{levelled, issued}
 use Rattle.kb_payment.specs.PaymentSums.{PaymentsValue}
 use Rattle.kb_codec.specs.declared.command.Command.{Command}
 use Rattle.kb_codec.specs.declared.command.Command.TheVariants as kinds
+use Rattle.kb_codec.specs.declared.action.Action.TheVariants as actions
 use Rattle.kb_tree.specs.ItemLines.{IsItemLine}
 use Rattle.kb_book.specs.declared.answer.Answer.{Answer}
 use Rattle.kb_book.specs.declared.refusal.Refusal.TheVariants as refusal
 use Rattle.kb_book.specs.Worlds.{WorldValue}
 use Rattle.kb_tree.specs.Issues.{Issue}
 use Rattle.kb_book.specs.Books.{BookValue, Kept, Keyed}
-use Rattle.kb_book.specs.Edits.{begun}
+use Rattle.kb_book.specs.Commands.{begun, max_charge, own_rows, own_lines}
 use Rattle.kb_book.specs.Rows.{first_refusal}
-use Rattle.kb_book.specs.Refusals.{max_charge, own_rows}
-use Rattle.kb_book.specs.Steps.{Outcome, issue_over, own_lines, with_paid, with_invoice, number_of, key_of}
+use Rattle.kb_book.specs.Steps.{Outcome, issue_over, with_paid, with_invoice, number_of}
+use Rattle.kb_codec.specs.Senders.{key_of}
 use Rattle.kb_book.specs.Steps.{keep, billed_outcome, accepted_over}
 use Rattle.kb_book.proofs.PaidRows.{with_paid-moved, with_paid-none}
 use Rattle.kb_book.proofs.NotedRows.{with_paid-new}
@@ -204,27 +205,10 @@ allowed-small amount none = by_test (nat_lt max_charge amount) refl
 
 pub own-plain : (world : WorldValue) (book : BookValue) (today : ℕ) (command : Command)
     → first_refusal (own_rows world book today command) ≡ None → All IsItemLine (own_lines command)
-own-plain world book today (kinds.Catalog c) none = All-nil IsItemLine
-own-plain world book today (kinds.OverdueRules c) none = All-nil IsItemLine
-own-plain world book today (kinds.OpenAccount c) none = All-nil IsItemLine
-own-plain world book today (kinds.Create c) none = All-nil IsItemLine
-own-plain world book today (kinds.Change c) none = All-nil IsItemLine
-own-plain world book today (kinds.Cancel c) none = All-nil IsItemLine
-own-plain world book today (kinds.Uncancel c) none = All-nil IsItemLine
-own-plain world book today (kinds.Pause c) none = All-nil IsItemLine
-own-plain world book today (kinds.Resume c) none = All-nil IsItemLine
-own-plain world book today (kinds.Block c) none = All-nil IsItemLine
-own-plain world book today (kinds.Bill c) none = All-nil IsItemLine
-own-plain world book today (kinds.Charge c) none =
+own-plain world book today (kinds.Act account key (actions.Charge c)) none =
     let low = allowed-small c.amount none in
     All-cons IsItemLine _ [] (refl, omega (arith, low)) (All-nil IsItemLine)
-own-plain world book today (kinds.Credit c) none =
+own-plain world book today (kinds.Act account key (actions.Credit c)) none =
     let low = allowed-small c.amount none in
     All-cons IsItemLine _ [] (refl, omega (arith, ints, low)) (All-nil IsItemLine)
-own-plain world book today (kinds.Pay c) none = All-nil IsItemLine
-own-plain world book today (kinds.Refund c) none = All-nil IsItemLine
-own-plain world book today (kinds.Chargeback c) none = All-nil IsItemLine
-own-plain world book today (kinds.Autopay c) none = All-nil IsItemLine
-own-plain world book today (kinds.Auto c) none = All-nil IsItemLine
-own-plain world book today (kinds.Settle c) none = All-nil IsItemLine
-own-plain world book today (kinds.Overdue c) none = All-nil IsItemLine
+own-plain world book today command none = All-nil IsItemLine

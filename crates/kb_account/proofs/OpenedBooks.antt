@@ -11,7 +11,8 @@ use Rattle.kb_credit.specs.InvoiceRows.{InvoicesValue}
 use Rattle.kb_credit.specs.InvoiceEdits.{no_invoices}
 use Rattle.kb_codec.specs.declared.command.Command.{Command}
 use Rattle.kb_codec.specs.declared.command.Command.TheVariants as kinds
-use Rattle.kb_codec.specs.declared.command.OpenAccount.{OpenAccount}
+use Rattle.kb_codec.specs.declared.action.Action.TheVariants as actions
+use Rattle.kb_codec.specs.declared.action.OpenAccount.{OpenAccount}
 use Rattle.kb_codec.specs.CommandBytes.{spelling}
 use Rattle.kb_book.specs.declared.answer.Answer.{Answer}
 use Rattle.kb_book.specs.Worlds.{WorldValue}
@@ -28,23 +29,25 @@ abbrev pub first_answer : Answer
 first_answer = record { command = 1; invoice = None; total = pos 0; credit = pos 0; unpaid = pos 0 }
 
 -- what that command makes of a new book
-abbrev pub IsOpened : OpenAccount → BookValue → Answer → Type 0
-IsOpened c book answer =
+abbrev pub IsOpened : List ℕ → List ℕ → OpenAccount → BookValue → Answer → Type 0
+IsOpened account key c book answer =
     (world : WorldValue) (today : ℕ)
-    → accepted_over world (new_book c.account c.currency c.bcd c.autopay) today (kinds.OpenAccount c)
-    first_day charged_days
+    → accepted_over world (new_book account c.currency c.bcd c.autopay) today
+    (kinds.Act account key (actions.OpenAccount c)) first_day charged_days
     ≡ (answer, book)
 
 -- it is a book without a subscription that keeps its answer
-pub opened-is : (command : Command) (c : OpenAccount) (timeline : TimelineValue) (blocks : List BlockState)
+pub opened-is : (command : Command) (account key : List ℕ) (c : OpenAccount)
+    (timeline : TimelineValue) (blocks : List BlockState)
     (payments : PaymentsValue) (invoices : InvoicesValue) (charges : List SubscriptionItems)
     (kept : Keyed Kept)
-    (answer : Answer) → command ≡ kinds.OpenAccount c → timeline ≡ no_subscriptions → blocks ≡ []
+    (answer : Answer) → command ≡ kinds.Act account key (actions.OpenAccount c)
+    → timeline ≡ no_subscriptions → blocks ≡ []
     → payments ≡ no_payments → invoices ≡ no_invoices → charges ≡ []
-    → kept ≡ put by_words c.key (record { spelling = spelling command; answer = answer }) []
+    → kept ≡ put by_words key (record { spelling = spelling command; answer = answer }) []
     → answer ≡ first_answer
-    → IsOpened c (record {
-      account = c.account;
+    → IsOpened account key c (record {
+      account = account;
       currency = c.currency;
       bcd = c.bcd;
       autopay = c.autopay;
@@ -60,23 +63,25 @@ pub opened-is : (command : Command) (c : OpenAccount) (timeline : TimelineValue)
       commands = 1;
       kept = kept;
     }) answer
-opened-is command c timeline blocks payments invoices charges kept answer is one two three four five six
+opened-is command account key c timeline blocks payments invoices charges kept answer is one two three
+    four five six
     told world today =
     rw (one, two, three, four, five, six, is, told)
 
 -- such a book is sound
-pub opened-sound_book : (c : OpenAccount) (book : BookValue) (answer : Answer) → IsOpened c book answer
+pub opened-sound_book : (account key : List ℕ) (c : OpenAccount) (book : BookValue) (answer : Answer)
+    → IsOpened account key c book answer
     → IsBook book
-opened-sound_book c book answer made =
+opened-sound_book account key c book answer made =
     subst (λ (outcome : Outcome). IsBook outcome.1) (made no_world 0)
-    (opened-sound c.account c.currency c.bcd c.autopay no_world 0 c)
+    (opened-sound account c.currency c.bcd c.autopay no_world 0 key c)
   where
     no_world : WorldValue
     no_world = record { versions = []; states = [] }
 
-module _ (command : Command) (c : OpenAccount) (is : command ≡ kinds.OpenAccount c) (book : BookValue)
-    (answer : Answer)
-    (made : IsOpened c book answer) where
+module _ (command : Command) (account key : List ℕ) (c : OpenAccount)
+    (is : command ≡ kinds.Act account key (actions.OpenAccount c)) (book : BookValue) (answer : Answer)
+    (made : IsOpened account key c book answer) where
   -- whichever the command is
   pub opened-command : (world : WorldValue) (today : ℕ)
       → accepted_over world (opening_book command) today command first_day charged_days ≡ (answer, book)
@@ -89,9 +94,9 @@ module _ (command : Command) (c : OpenAccount) (is : command ≡ kinds.OpenAccou
   pub opened-days : (world : WorldValue) → IsBilled world book
   opened-days world =
       subst (λ (outcome : Outcome). IsBilled world outcome.1) (made world 0)
-      (opened-billed c.account c.currency c.bcd c.autopay world 0 c)
+      (opened-billed account c.currency c.bcd c.autopay world 0 key c)
 
   pub opened-credit : (world : WorldValue) → IsEven world book
   opened-credit world =
       subst (λ (outcome : Outcome). IsEven world outcome.1) (made world 0)
-      (opened-even c.account c.currency c.bcd c.autopay world 0 c)
+      (opened-even account c.currency c.bcd c.autopay world 0 key c)

@@ -13,7 +13,7 @@ use Rattle.kb_payment.specs.PaymentEdits.{amount_of, purchase_of, purchased, giv
 use Rattle.kb_payment.specs.PaymentEdits.{charged_back, settled, give_back_fault}
 use Rattle.kb_payment.specs.SoundPayments.{ArePayments}
 use Rattle.kb_book.proofs.PaidMoves.{put-moves, settle-moves, pays, nat_abs-pays, nat_abs-pos}
-use Rattle.kb_codec.specs.declared.command.Pay.{Pay}
+use Rattle.kb_codec.specs.declared.action.Pay.{Pay}
 use Rattle.kb_credit.specs.InvoiceRows.{InvoicesValue}
 use Rattle.kb_book.specs.declared.refusal.Refusal.TheVariants as refusal
 use Rattle.kb_book.specs.Rows.{first_refusal}

@@ -10,7 +10,8 @@ use Rattle.kb_book.specs.declared.unprepared.Unprepared.TheVariants.{Refused, No
 use Rattle.kb_book.specs.Worlds.{WorldValue}
 use Rattle.kb_book.specs.Books.{BookValue, Kept}
 use Rattle.kb_book.specs.Rows.{first_refusal, IsUnprepared}
-use Rattle.kb_book.specs.Steps.{Outcome, step, key_of, kept_of, rows_of, accepted_over}
+use Rattle.kb_book.specs.Steps.{Outcome, step, kept_of, rows_of, accepted_over}
+use Rattle.kb_codec.specs.Senders.{key_of}
 use Rattle.kb_account.specs.Prepares.{refusal_by}
 use Rattle.kb_account.specs.Private.KeptAnswers.{kept_answer, kept_refusal}
 

@@ -7,7 +7,7 @@ use Rattle.kb_tree.specs.declared.issue.Issue.{Issue}
 use Rattle.kb_book.specs.declared.unprepared.Unprepared.{Unprepared}
 use Rattle.kb_book.specs.Worlds.{WorldValue}
 use Rattle.kb_book.specs.Books.{BookValue}
-use Rattle.kb_book.specs.Edits.{begun}
+use Rattle.kb_book.specs.Commands.{begun}
 use Rattle.kb_book.specs.Rows.{first_refusal, IsUnprepared}
 use Rattle.kb_book.specs.Steps.{Outcome, rows_of, step, accepted_over}
 use Rattle.kb_account.specs.Issues.{IsIssueOf, IsSettlement}

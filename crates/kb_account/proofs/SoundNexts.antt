@@ -13,10 +13,9 @@ use Rattle.kb_book.specs.declared.answer.Answer.{Answer}
 use Rattle.kb_book.specs.Worlds.{WorldValue}
 use Rattle.kb_tree.specs.Issues.{Issue}
 use Rattle.kb_book.specs.Books.{BookValue}
-use Rattle.kb_book.specs.Edits.{begun}
+use Rattle.kb_book.specs.Commands.{begun, own_rows, own_lines}
 use Rattle.kb_book.specs.Rows.{first_refusal}
-use Rattle.kb_book.specs.Refusals.{own_rows}
-use Rattle.kb_book.specs.Steps.{Outcome, issue_over, own_lines, accepted_over}
+use Rattle.kb_book.specs.Steps.{Outcome, issue_over, accepted_over}
 use Rattle.kb_book.specs.SoundBooks.{IsBook}
 use Rattle.kb_book.proofs.PaidMoves.{MovesOnce}
 use Rattle.kb_book.proofs.SoundCommands.{sound-accepted}

@@ -2,12 +2,14 @@
 use Rattle.std.specs.Prelude.{◌≡◌, Bool, true, false, [], Option, Some, None, Result, Ok, Err, bytes_eq, ⊤}
 use Rattle.kb_codec.specs.declared.command.Command.{Command}
 use Rattle.kb_codec.specs.declared.command.Command.TheVariants as kinds
-use Rattle.kb_codec.specs.declared.command.OpenAccount.{OpenAccount}
+use Rattle.kb_codec.specs.declared.action.Action.TheVariants as actions
+use Rattle.kb_codec.specs.declared.action.OpenAccount.{OpenAccount}
 use Rattle.kb_book.specs.declared.answer.Answer.{Answer}
 use Rattle.kb_codec.specs.CommandBytes.{spelling}
 use Rattle.kb_book.specs.declared.refusal.Refusal.{Refusal}
 use Rattle.kb_book.specs.Books.{BookValue, Kept, new_book}
-use Rattle.kb_book.specs.Steps.{Outcome, key_of, kept_of}
+use Rattle.kb_book.specs.Steps.{Outcome, kept_of}
+use Rattle.kb_codec.specs.Senders.{key_of}
 use Rattle.kb_account.specs.declared.next.Prepared.{Prepared}
 use Rattle.kb_account.specs.declared.next.Prepared.TheVariants.{Next, Kept as KeptAnswer}
 
@@ -39,11 +41,12 @@ abbrev pub IfNew : (BookValue → Answer → Type 0) → Prepared → Type 0
 IfNew P (Next next) = P next.book next.answer
 IfNew P (KeptAnswer answer) = ⊤
 
--- a command is opening an account
-abbrev pub IsOpening : Command → Type 0
-IsOpening command = (c : OpenAccount) × (command ≡ kinds.OpenAccount c)
+-- a command opens an account
+abbrev pub is_opening : Command → Bool
+is_opening (kinds.Act account key (actions.OpenAccount c)) = true
+is_opening _ = false
 
 -- the book that an account is opened with, before that command is counted
 abbrev pub opening_book : Command → BookValue
-opening_book (kinds.OpenAccount c) = new_book c.account c.currency c.bcd c.autopay
+opening_book (kinds.Act account key (actions.OpenAccount c)) = new_book account c.currency c.bcd c.autopay
 opening_book _ = new_book [] [] 0 false

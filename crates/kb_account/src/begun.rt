@@ -1,6 +1,6 @@
 //! A command's own edit of a book, before the book is billed.
 ghost use Rattle.std.specs.Prelude.{◌≡◌, Some};
-ghost use Rattle.kb_book.specs.Edits.{moved_to};
+ghost use Rattle.kb_book.specs.Commands.{moved_to};
 
 use kb_blocking::Blocks;
 use kb_days::{Day, Name};

@@ -8,6 +8,7 @@ ghost use Rattle.kb_tree.specs.ItemLines.{IsItemLine};
 ghost use Rattle.kb_tree.specs.IssueValues.{issue_of};
 ghost use Rattle.kb_book.specs.Dues.{facts_of};
 ghost use Rattle.kb_tree.specs.Issues as told;
+ghost use Rattle.kb_book.specs.Commands.{own_lines};
 ghost use Rattle.kb_book.specs.Steps as steps;
 ghost use Rattle.kb_account.specs.Private.States.{value_of};
 ghost use Rattle.kb_account.specs.Private.Begins.{begun_of};
@@ -17,7 +18,7 @@ use crate::begun::Begun;
 use crate::state::State;
 use crate::world::World;
 use kb_base::NoMemory;
-use kb_codec::Command;
+use kb_codec::{Action, Command};
 use kb_credit::Line;
 use kb_days::Day;
 use kb_due::Facts;
@@ -149,7 +150,7 @@ fn with_start(
 
 /// The lines of the new items, and that of a charge or a credit behind them.
 pub(crate) fn with_own_line(mut lines: Vec<Line>, command: &Command) -> Result<Vec<Line>, NoMemory>
-    ensures { IfOk result (λ all. all.items ≡ lines.items ++ steps.own_lines command.now) }
+    ensures { IfOk result (λ all. all.items ≡ lines.items ++ own_lines command.now) }
 {
     if let Some(line) = own_line(command) {
         lines.push(line)?;
@@ -162,27 +163,42 @@ pub(crate) fn leaves_due(command: &Command) -> bool
     ensures { result ≡ leaving.leaves_due command.now }
 {
     match command {
-        Command::Charge(_)
-        | Command::Credit(_)
-        | Command::Pay(_)
-        | Command::Refund(_)
-        | Command::Chargeback(_)
-        | Command::Autopay(_)
-        | Command::Auto(_)
-        | Command::Settle(_) => true,
+        Command::Act { action, .. } => action_leaves_due(action),
+        Command::Auto(_) | Command::Settle(_) => true,
+        _ => false,
+    }
+}
+
+/// Whether an action does.
+fn action_leaves_due(action: &Action) -> bool
+    ensures { result ≡ leaving.action_leaves_due action.now }
+{
+    match action {
+        Action::Charge(_)
+        | Action::Credit(_)
+        | Action::Pay(_)
+        | Action::Refund(_)
+        | Action::Chargeback(_)
+        | Action::Autopay(_) => true,
         _ => false,
     }
 }
 
 /// The line of a charge or a credit.
 fn own_line(command: &Command) -> Option<Line>
-    ensures { option_to_list result ≡ steps.own_lines command.now }
+    ensures { option_to_list result ≡ own_lines command.now }
 {
     match command {
-        Command::Charge(charge) => Some(Line::Charge {
+        Command::Act {
+            action: Action::Charge(charge),
+            ..
+        } => Some(Line::Charge {
             amount: i128::from(charge.amount.units()),
         }),
-        Command::Credit(credit) => Some(Line::Credit {
+        Command::Act {
+            action: Action::Credit(credit),
+            ..
+        } => Some(Line::Credit {
             amount: -i128::from(credit.amount.units()),
         }),
         _ => None,

@@ -3,6 +3,7 @@ ghost use Rattle.std.specs.Prelude.{◌≡◌, ℕ, List, [], pos, true, Some, N
 ghost use Rattle.std.specs.FinMap.{entries, put};
 ghost use Rattle.kb_sharing.specs.Keys.{by_words};
 ghost use Rattle.kb_codec.specs.CommandBytes.{spelling};
+ghost use Rattle.kb_codec.specs.Senders.{key_of};
 ghost use Rattle.kb_days.specs.Calendar.{first_day, charged_days};
 ghost use Rattle.kb_book.specs.Worlds.{WorldValue};
 ghost use Rattle.kb_book.specs.Rows.{IsUnprepared, first_refusal};
@@ -11,7 +12,7 @@ ghost use Rattle.kb_book.specs.BilledBooks.{IsBilled, IsEven};
 ghost use Rattle.kb_book.specs.AddedItems.{AddsFrom, GoOn};
 ghost use Rattle.kb_book.specs.NextDues.{next_due};
 ghost use Rattle.kb_account.specs.Prepares.{prepared_outcome, refusal_by, is_kept, is_kept_command, IfNew};
-ghost use Rattle.kb_account.specs.Prepares.{IsOpening, opening_book};
+ghost use Rattle.kb_account.specs.Prepares.{is_opening, opening_book};
 
 use crate::kept::Kept;
 use crate::next::{Next, Prepared};
@@ -20,7 +21,7 @@ use crate::world::World;
 use kb_base::NoMemory;
 use kb_blocking::Blocks;
 use kb_book::{Answer, Unprepared};
-use kb_codec::{Command, OpenAccount};
+use kb_codec::{Action, Command, OpenAccount};
 use kb_credit::Invoices;
 use kb_days::{Day, Name};
 use kb_money::Currency;
@@ -59,7 +60,7 @@ impl Drop for Book {
 impl Book {
     /// The book of an account that is opened, and the answer to that command.
     pub fn first(alloc: Global, command: &Command) -> Result<(Book, Answer), NoMemory>
-        requires opening { IsOpening command.now }
+        requires opening { is_opening command.now ≡ true }
         ensures first { IfOk result (λ first. (world : WorldValue) (today : ℕ)
             → told.accepted_over world (opening_book command.now) today command.now first_day charged_days
             ≡ (first.1, first.0)) }
@@ -67,7 +68,11 @@ impl Book {
         ensures even { IfOk result (λ first. (world : WorldValue) → IsEven world first.0) }
     {
         match command {
-            Command::OpenAccount(open) => match opened(alloc, command, open) {
+            Command::Act {
+                account,
+                key,
+                action: Action::OpenAccount(open),
+            } => match opened(alloc, command, *account, *key, open) {
                 Ok(first) => Ok(first),
                 Err(fault) => Err(fault),
             },
@@ -98,7 +103,7 @@ impl Book {
         ensures added { IfOk result (λ prepared. (other : WorldValue) → IsBilled other self.now
             → IfNew (λ book answer. AddsFrom other world.now self.now book) prepared) }
         ensures behind { IfOk result (λ prepared. IfNew (λ book answer. GoOn self.now book) prepared) }
-        ensures repeated { IfOk result (λ prepared. (key : List ℕ) → told.key_of command.now ≡ Some key
+        ensures repeated { IfOk result (λ prepared. (key : List ℕ) → key_of command.now ≡ Some key
             → IfNew (λ book answer. (other : WorldValue) (tomorrow : ℕ)
             → told.step other book tomorrow command.now ≡ Ok (answer, book)) prepared) }
     {
@@ -162,8 +167,14 @@ impl Book {
 }
 
 /// The book of an account that is opened.
-fn opened(alloc: Global, command: &Command, asked: &OpenAccount) -> Result<(Book, Answer), NoMemory>
-    requires opening { command.now ≡ Command.OpenAccount asked.now }
+fn opened(
+    alloc: Global,
+    command: &Command,
+    account: Name,
+    key: Name,
+    asked: &OpenAccount,
+) -> Result<(Book, Answer), NoMemory>
+    requires opening { command.now ≡ Command.Act account key (Action.OpenAccount asked.now) }
     ensures first { IfOk result (λ first. (world : WorldValue) (today : ℕ)
         → told.accepted_over world (opening_book command.now) today command.now first_day charged_days
         ≡ (first.1, first.0)) }
@@ -171,7 +182,7 @@ fn opened(alloc: Global, command: &Command, asked: &OpenAccount) -> Result<(Book
     ensures even { IfOk result (λ first. (world : WorldValue) → IsEven world first.0) }
 {
     let answer = first_answer();
-    let kept = first_kept(alloc, command, asked.key, answer)?;
+    let kept = first_kept(alloc, command, key, answer)?;
     let no_timeline = Timeline::new(alloc);
     let no_blocks = Blocks::new(alloc);
     let no_payments = Payments::new(alloc);
@@ -182,7 +193,7 @@ fn opened(alloc: Global, command: &Command, asked: &OpenAccount) -> Result<(Book
     let charges = Arc::new(alloc, no_charges)?;
     let invoices = Invoices::new(alloc);
     let state = State {
-        account: asked.account,
+        account,
         currency: asked.currency,
         bcd: asked.bcd,
         autopay: asked.autopay,

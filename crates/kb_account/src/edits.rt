@@ -1,7 +1,7 @@
 //! Edits of one part of an account.
 ghost use Rattle.std.specs.Prelude.{◌≡◌, ◌≤◌, length, Some, IfOk};
 ghost use Rattle.std.specs.Arc.{arc_value};
-ghost use Rattle.kb_book.specs.Edits.{moved_to};
+ghost use Rattle.kb_book.specs.Commands.{moved_to};
 ghost use Rattle.kb_account.specs.Private.States.{value_of};
 ghost use Rattle.kb_account.specs.Private.Begins.{begun_of, with_started, HasMoved, IsBegun};
 

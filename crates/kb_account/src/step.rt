@@ -9,7 +9,8 @@ ghost use Rattle.kb_credit.specs.Sizes.{size_of};
 ghost use Rattle.kb_credit.specs.Items.{amount_of};
 ghost use Rattle.kb_credit.specs.InvoiceRows.{credit, unpaid};
 ghost use Rattle.kb_book.specs.Rows.{IsUnprepared, first_refusal};
-ghost use Rattle.kb_book.specs.Edits.{begun};
+ghost use Rattle.kb_book.specs.Commands.{begun};
+ghost use Rattle.kb_codec.specs.Senders.{key_of};
 ghost use Rattle.kb_book.specs.Steps as told;
 ghost use Rattle.kb_book.specs.BilledBooks.{IsBilled};
 ghost use Rattle.kb_book.specs.SoundBooks.{IsBook};
@@ -55,11 +56,11 @@ impl State {
         command: &Command,
     ) -> Result<Option<Answer>, Unprepared>
         ensures answer { IfOk result (λ answer. answer
-            ≡ kept_answer (told.kept_of (value_of self.now) (told.key_of command.now)) command.now) }
+            ≡ kept_answer (told.kept_of (value_of self.now) (key_of command.now)) command.now) }
         ensures allowed { OnOk result
-            (kept_refusal (told.kept_of (value_of self.now) (told.key_of command.now)) command.now ≡ None) }
+            (kept_refusal (told.kept_of (value_of self.now) (key_of command.now)) command.now ≡ None) }
         ensures refused { IfErr result (IsUnprepared
-            (kept_refusal (told.kept_of (value_of self.now) (told.key_of command.now)) command.now)) }
+            (kept_refusal (told.kept_of (value_of self.now) (key_of command.now)) command.now)) }
     {
         let Some(kept) = self.kept_of(command) else {
             return Ok(None);
@@ -75,7 +76,7 @@ impl State {
     /// What is kept under the key of a command.
     #[tactic(auto, using(crate::proofs::KeptEntries::kept_entry))]
     fn kept_of(&self, command: &Command) -> Option<&Kept>
-        ensures { option_copied result ≡ told.kept_of (value_of self.now) (told.key_of command.now) }
+        ensures { option_copied result ≡ told.kept_of (value_of self.now) (key_of command.now) }
     {
         match key_of(command) {
             None => None,
@@ -119,7 +120,7 @@ impl State {
     /// Whether the account has as many commands of callers as it may have, and this is one more.
     #[tactic(auto, using(crate::proofs::KeptEntries::kept_count))]
     fn has_all_commands(&self, command: &Command) -> bool
-        ensures { result ≡ told.has_all_commands (value_of self.now) (told.key_of command.now) }
+        ensures { result ≡ told.has_all_commands (value_of self.now) (key_of command.now) }
     {
         match key_of(command) {
             None => false,
@@ -277,7 +278,7 @@ impl State {
         answer: Answer,
     ) -> Result<SharedMap<Name, Kept>, NoMemory>
         ensures { IfOk result (λ kept. entries kept
-            ≡ kept_after (entries self.now.kept) command.now answer (told.key_of command.now)) }
+            ≡ kept_after (entries self.now.kept) command.now answer (key_of command.now)) }
     {
         let Some(key) = key_of(command) else {
             return self.kept.share();

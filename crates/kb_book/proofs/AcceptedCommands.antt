@@ -6,8 +6,9 @@ use Rattle.kb_days.specs.Calendar.{first_day, charged_days}
 use Rattle.kb_codec.specs.declared.command.Command.{Command}
 use Rattle.kb_book.specs.Worlds.{WorldValue}
 use Rattle.kb_book.specs.Books.{BookValue}
-use Rattle.kb_book.specs.Edits.{begun}
-use Rattle.kb_book.specs.Steps.{Outcome, key_of, keep, own_lines, accepted_over, billed_outcome, issue_over}
+use Rattle.kb_book.specs.Commands.{begun, own_lines}
+use Rattle.kb_book.specs.Steps.{Outcome, keep, accepted_over, billed_outcome, issue_over}
+use Rattle.kb_codec.specs.Senders.{key_of}
 use Rattle.kb_book.specs.SoundBooks.{IsBook}
 use Rattle.kb_book.specs.BilledBooks.{IsBilled, IsEven}
 use Rattle.kb_book.specs.AddedItems.{AddsFrom, GoOn}

@@ -15,7 +15,8 @@ use Rattle.kb_payment.specs.PaymentSums.{PaymentsValue, attempt_of, with_attempt
 use Rattle.kb_payment.specs.PaymentEdits.{purchase_of, amount_of, give_back_of, given_back, give_back_fault}
 use Rattle.kb_codec.specs.declared.command.Command.{Command}
 use Rattle.kb_codec.specs.declared.command.Command.TheVariants as kinds
-use Rattle.kb_codec.specs.declared.command.Pay.{Pay}
+use Rattle.kb_codec.specs.declared.action.Action.TheVariants as actions
+use Rattle.kb_codec.specs.declared.action.Pay.{Pay}
 use Rattle.kb_book.specs.declared.refusal.Refusal.{Refusal}
 use Rattle.kb_book.specs.declared.refusal.Refusal.TheVariants as refusal
 use Rattle.kb_book.specs.Worlds.{WorldValue}
@@ -24,8 +25,8 @@ use Rattle.kb_book.specs.PaymentRows.{is_own_key, balance_at, pay_rows, purchase
 use Rattle.kb_book.specs.PaymentRows.{give_back_rows}
 use Rattle.kb_book.specs.Inner.{invoice_due, may_be_paid, is_this}
 use Rattle.kb_book.specs.Rows.{Rows, first_refusal}
-use Rattle.kb_book.specs.Refusals.{own_rows, auto_rows}
-use Rattle.kb_book.specs.Edits.{auto_key, begun}
+use Rattle.kb_book.specs.Commands.{own_rows, auto_rows, begun}
+use Rattle.kb_book.specs.Edits.{auto_key}
 use Rattle.kb_book.proofs.OwnedKeys.{AreOwned, owned-other, owned-auto, owned-settled}
 use Rattle.kb_book.proofs.InvoicedAttempts.{AreInvoiced, invoiced-put, invoiced-found, invoiced-settled}
 use Rattle.kb_book.proofs.FreshKeys.{due_number}
@@ -119,33 +120,19 @@ module _ (world : WorldValue) (book : BookValue) (today : ℕ) where
   pub payments-sound : (command : Command) → AreSound (length book.invoices.rows) book.payments
       → first_refusal (own_rows world book today command) ≡ None
       → AreSound (length book.invoices.rows) (begun world book today command).payments
-  payments-sound (kinds.Catalog c) sound none = sound
-  payments-sound (kinds.OverdueRules c) sound none = sound
-  payments-sound (kinds.OpenAccount c) sound none = sound
-  payments-sound (kinds.Create c) sound none = sound
-  payments-sound (kinds.Change c) sound none = sound
-  payments-sound (kinds.Cancel c) sound none = sound
-  payments-sound (kinds.Uncancel c) sound none = sound
-  payments-sound (kinds.Pause c) sound none = sound
-  payments-sound (kinds.Resume c) sound none = sound
-  payments-sound (kinds.Block c) sound none = sound
-  payments-sound (kinds.Bill c) sound none = sound
-  payments-sound (kinds.Charge c) sound none = sound
-  payments-sound (kinds.Credit c) sound none = sound
-  payments-sound (kinds.Pay c) sound none =
+  payments-sound (kinds.Act account key (actions.Pay c)) sound none =
       let new = pay-new book.payments book.invoices c none in
       sound-put (length book.invoices.rows) book.payments c.payment
       (purchase_of c.invoice (amount_of (balance_at book.invoices c.invoice) c.amount) today false) sound
       new.0 new.2
-  payments-sound (kinds.Refund c) sound none =
+  payments-sound (kinds.Act account key (actions.Refund c)) sound none =
       sound-given_back (length book.invoices.rows) Refund Unknown book.payments c.payment c.of c.amount today
       sound
       (give_back-other book.payments c.payment c.of c.amount none)
-  payments-sound (kinds.Chargeback c) sound none =
+  payments-sound (kinds.Act account key (actions.Chargeback c)) sound none =
       sound-given_back (length book.invoices.rows) Chargeback Success book.payments c.payment c.of c.amount
       today sound
       (give_back-other book.payments c.payment c.of c.amount none)
-  payments-sound (kinds.Autopay c) sound none = sound
   payments-sound (kinds.Auto c) sound none =
       let due = due-found book.autopay book.payments book.invoices today c.invoice none in
       let found = due_number (may_be_paid book.payments today) 1 c.invoice book.invoices.rows due in
@@ -158,4 +145,4 @@ module _ (world : WorldValue) (book : BookValue) (today : ℕ) where
     owned-settled book.payments c.payment c.status sound.0,
     invoiced-settled (length book.invoices.rows) book.payments c.payment c.status sound.1,
   )
-  payments-sound (kinds.Overdue c) sound none = sound
+  payments-sound command sound none = sound

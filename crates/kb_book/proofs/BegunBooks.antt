@@ -12,18 +12,18 @@ use Rattle.kb_timeline.specs.SubscriptionEdits.{uncancel_of}
 use Rattle.kb_timeline.proofs.EditedMembers.{length-edited_at}
 use Rattle.kb_codec.specs.declared.command.Command.{Command}
 use Rattle.kb_codec.specs.declared.command.Command.TheVariants as kinds
-use Rattle.kb_codec.specs.declared.command.Create.{Create}
-use Rattle.kb_codec.specs.declared.command.Change.{Change}
-use Rattle.kb_codec.specs.declared.command.Cancel.{Cancel}
-use Rattle.kb_codec.specs.declared.command.Uncancel.{Uncancel}
+use Rattle.kb_codec.specs.declared.action.Action.TheVariants as actions
+use Rattle.kb_codec.specs.declared.action.Create.{Create}
+use Rattle.kb_codec.specs.declared.action.Change.{Change}
+use Rattle.kb_codec.specs.declared.action.Cancel.{Cancel}
+use Rattle.kb_codec.specs.declared.action.Uncancel.{Uncancel}
 use Rattle.kb_due.specs.Facts.{FactsValue}
-use Rattle.kb_book.specs.SubscriptionEdits.{started, with_change, with_cancel, with_uncancel, at_place}
+use Rattle.kb_book.specs.SubscriptionCommands.{started, with_change, with_cancel, with_uncancel, at_place}
 use Rattle.kb_book.specs.Worlds.{WorldValue}
 use Rattle.kb_tree.specs.Issues.{no_items}
 use Rattle.kb_book.specs.Books.{BookValue}
 use Rattle.kb_book.specs.Dues.{facts_of}
-use Rattle.kb_book.specs.Edits.{begun}
-use Rattle.kb_book.specs.Steps.{own_lines}
+use Rattle.kb_book.specs.Commands.{begun, own_lines}
 
 -- how many subscriptions a timeline has
 abbrev pub subscription_count : TimelineValue → ℕ
@@ -101,41 +101,28 @@ own_line before amount = omega (arith, ints)
 -- each command's own edit
 pub begun-edited : (world : WorldValue) (book : BookValue) (today : ℕ) (command : Command)
     → IsEdited book (begun world book today command) (own_lines command)
-begun-edited world book today (kinds.Catalog c) = other_edit book _ refl refl refl refl refl
-begun-edited world book today (kinds.OverdueRules c) = other_edit book _ refl refl refl refl refl
-begun-edited world book today (kinds.OpenAccount c) = other_edit book _ refl refl refl refl refl
-begun-edited world book today (kinds.Create c) = record {
+begun-edited world book today (kinds.Act account key (actions.Create c)) = record {
   invoices = refl;
   commands = refl;
   beside = omega (arith, ints);
   subscriptions = inr (refl, count-started (facts_of world book) today c);
 }
-begun-edited world book today (kinds.Change c) =
+begun-edited world book today (kinds.Act account key (actions.Change c)) =
     other_edit book _ refl refl refl refl (count-with_change (facts_of world book) book.billed today c)
-begun-edited world book today (kinds.Cancel c) =
+begun-edited world book today (kinds.Act account key (actions.Cancel c)) =
     other_edit book _ refl refl refl refl (count-with_cancel (facts_of world book) book.billed today c)
-begun-edited world book today (kinds.Uncancel c) =
+begun-edited world book today (kinds.Act account key (actions.Uncancel c)) =
     other_edit book _ refl refl refl refl (count-with_uncancel book.timeline c)
-begun-edited world book today (kinds.Pause c) = other_edit book _ refl refl refl refl refl
-begun-edited world book today (kinds.Resume c) = other_edit book _ refl refl refl refl refl
-begun-edited world book today (kinds.Block c) = other_edit book _ refl refl refl refl refl
-begun-edited world book today (kinds.Bill c) = other_edit book _ refl refl refl refl refl
-begun-edited world book today (kinds.Charge c) = record {
+begun-edited world book today (kinds.Act account key (actions.Charge c)) = record {
   invoices = refl;
   commands = refl;
   beside = own_line book.beside (pos c.amount);
   subscriptions = inl (refl, refl);
 }
-begun-edited world book today (kinds.Credit c) = record {
+begun-edited world book today (kinds.Act account key (actions.Credit c)) = record {
   invoices = refl;
   commands = refl;
   beside = own_line book.beside (neg_ℤ (pos c.amount));
   subscriptions = inl (refl, refl);
 }
-begun-edited world book today (kinds.Pay c) = other_edit book _ refl refl refl refl refl
-begun-edited world book today (kinds.Refund c) = other_edit book _ refl refl refl refl refl
-begun-edited world book today (kinds.Chargeback c) = other_edit book _ refl refl refl refl refl
-begun-edited world book today (kinds.Autopay c) = other_edit book _ refl refl refl refl refl
-begun-edited world book today (kinds.Auto c) = other_edit book _ refl refl refl refl refl
-begun-edited world book today (kinds.Settle c) = other_edit book _ refl refl refl refl refl
-begun-edited world book today (kinds.Overdue c) = other_edit book _ refl refl refl refl refl
+begun-edited world book today command = other_edit book _ refl refl refl refl refl

@@ -6,7 +6,8 @@ use Rattle.kb_credit.specs.declared.row.Row.{Row}
 use Rattle.kb_credit.specs.InvoiceRows.{balance_of}
 use Rattle.kb_payment.specs.declared.attempt.Attempt.{Attempt}
 use Rattle.kb_codec.specs.declared.command.Command.TheVariants as kinds
-use Rattle.kb_codec.specs.declared.command.OpenAccount.{OpenAccount}
+use Rattle.kb_codec.specs.declared.action.Action.TheVariants as actions
+use Rattle.kb_codec.specs.declared.action.OpenAccount.{OpenAccount}
 use Rattle.kb_tree.specs.Numbers.{AreBelow}
 use Rattle.kb_book.specs.Worlds.{WorldValue}
 use Rattle.kb_book.specs.Books.{BookValue, new_book}
@@ -21,14 +22,16 @@ module _ (account currency : List ℕ) (bcd : ℕ) (autopay : Bool) where
   opening = new_book account currency bcd autopay
 
   -- once it is opened
-  pub opened-billed : (world : WorldValue) (today : ℕ) (c : OpenAccount)
-      → IsBilled world (accepted_over world opening today (kinds.OpenAccount c) first_day charged_days).1
-  opened-billed world today c = record { days = tt; totals = refl }
+  pub opened-billed : (world : WorldValue) (today : ℕ) (key : List ℕ) (c : OpenAccount)
+      → IsBilled world (accepted_over world opening today (kinds.Act account key (actions.OpenAccount c))
+      first_day charged_days).1
+  opened-billed world today key c = record { days = tt; totals = refl }
 
-  pub opened-sound : (world : WorldValue) (today : ℕ) (c : OpenAccount)
-      → IsBook (accepted_over world opening today (kinds.OpenAccount c) first_day charged_days).1
-  opened-sound world today c = record {
-    billed = (world, opened-billed world today c);
+  pub opened-sound : (world : WorldValue) (today : ℕ) (key : List ℕ) (c : OpenAccount)
+      → IsBook (accepted_over world opening today (kinds.Act account key (actions.OpenAccount c))
+      first_day charged_days).1
+  opened-sound world today key c = record {
+    billed = (world, opened-billed world today key c);
     matched = refl;
     below = All-nil (AreBelow 1);
     issued = omega arith;
@@ -44,6 +47,7 @@ module _ (account currency : List ℕ) (bcd : ℕ) (autopay : Bool) where
     invoiced = All-nil (λ (entry : List ℕ × Attempt). entry.1.invoice ≤ 0);
   }
 
-  pub opened-even : (world : WorldValue) (today : ℕ) (c : OpenAccount)
-      → IsEven world (accepted_over world opening today (kinds.OpenAccount c) first_day charged_days).1
-  opened-even world today c = record { credit = refl; unpaid = refl }
+  pub opened-even : (world : WorldValue) (today : ℕ) (key : List ℕ) (c : OpenAccount)
+      → IsEven world (accepted_over world opening today (kinds.Act account key (actions.OpenAccount c))
+      first_day charged_days).1
+  opened-even world today key c = record { credit = refl; unpaid = refl }

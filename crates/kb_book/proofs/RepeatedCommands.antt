@@ -12,9 +12,10 @@ use Rattle.kb_codec.specs.CommandBytes.{spelling}
 use Rattle.kb_book.specs.declared.answer.Answer.{Answer}
 use Rattle.kb_book.specs.Worlds.{WorldValue}
 use Rattle.kb_book.specs.Books.{BookValue, Keyed}
-use Rattle.kb_book.specs.Steps.{Outcome, key_of, keep, kept_of, accepted_over, billed_outcome}
-use Rattle.kb_book.specs.Steps.{issue_over, own_lines, step}
-use Rattle.kb_book.specs.Edits.{begun}
+use Rattle.kb_book.specs.Steps.{Outcome, keep, kept_of, accepted_over, billed_outcome}
+use Rattle.kb_codec.specs.Senders.{key_of}
+use Rattle.kb_book.specs.Steps.{issue_over, step}
+use Rattle.kb_book.specs.Commands.{own_lines, begun}
 
 -- a text is the same as itself
 pub bytes_eq-self : (text : List ℕ) → bytes_eq text text ≡ true

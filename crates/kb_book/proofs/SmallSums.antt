@@ -14,12 +14,13 @@ use Rattle.kb_credit.proofs.GrownSizes.{payments-issued, payments-paid_at, payme
 use Rattle.kb_payment.specs.PaymentSums.{PaymentsValue, Moves}
 use Rattle.kb_codec.specs.declared.command.Command.{Command}
 use Rattle.kb_codec.specs.declared.command.Command.TheVariants as kinds
+use Rattle.kb_codec.specs.declared.action.Action.TheVariants as actions
 use Rattle.kb_book.specs.declared.refusal.Refusal.TheVariants as refusal
 use Rattle.kb_book.specs.Worlds.{WorldValue}
 use Rattle.kb_book.specs.Books.{BookValue}
 use Rattle.kb_book.specs.Rows.{first_refusal}
-use Rattle.kb_book.specs.Refusals.{own_rows, max_charge}
-use Rattle.kb_book.specs.Steps.{with_invoice, with_paid, own_lines}
+use Rattle.kb_book.specs.Commands.{own_rows, max_charge, own_lines}
+use Rattle.kb_book.specs.Steps.{with_invoice, with_paid}
 use Rattle.kb_book.proofs.InvoicedAttempts.{AreInvoiced}
 use Rattle.kb_book.proofs.PaidRows.{with_paid-moved, with_paid-none}
 use Rattle.kb_book.proofs.NotedRows.{with_paid-new}
@@ -104,25 +105,8 @@ charge-small world book today amount none =
 pub own-small : (world : WorldValue) (book : BookValue) (today : ℕ) (command : Command)
     → first_refusal (own_rows world book today command) ≡ None
     → nat_abs (sum_of amount_of (own_lines command)) ≤ 10 ^ 9
-own-small world book today (kinds.Catalog c) none = omega arith
-own-small world book today (kinds.OverdueRules c) none = omega arith
-own-small world book today (kinds.OpenAccount c) none = omega arith
-own-small world book today (kinds.Create c) none = omega arith
-own-small world book today (kinds.Change c) none = omega arith
-own-small world book today (kinds.Cancel c) none = omega arith
-own-small world book today (kinds.Uncancel c) none = omega arith
-own-small world book today (kinds.Pause c) none = omega arith
-own-small world book today (kinds.Resume c) none = omega arith
-own-small world book today (kinds.Block c) none = omega arith
-own-small world book today (kinds.Bill c) none = omega arith
-own-small world book today (kinds.Charge c) none =
+own-small world book today (kinds.Act account key (actions.Charge c)) none =
     let low = charge-small world book today c.amount none in omega (arith, ints, low)
-own-small world book today (kinds.Credit c) none =
+own-small world book today (kinds.Act account key (actions.Credit c)) none =
     let low = charge-small world book today c.amount none in omega (arith, ints, low, nat_abs-pos c.amount)
-own-small world book today (kinds.Pay c) none = omega arith
-own-small world book today (kinds.Refund c) none = omega arith
-own-small world book today (kinds.Chargeback c) none = omega arith
-own-small world book today (kinds.Autopay c) none = omega arith
-own-small world book today (kinds.Auto c) none = omega arith
-own-small world book today (kinds.Settle c) none = omega arith
-own-small world book today (kinds.Overdue c) none = omega arith
+own-small world book today command none = omega arith

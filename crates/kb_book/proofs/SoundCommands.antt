@@ -10,10 +10,10 @@ use Rattle.kb_codec.specs.declared.command.Command.{Command}
 use Rattle.kb_book.specs.Worlds.{WorldValue}
 use Rattle.kb_tree.specs.Issues.{Issue}
 use Rattle.kb_book.specs.Books.{BookValue}
-use Rattle.kb_book.specs.Edits.{begun}
+use Rattle.kb_book.specs.Commands.{begun, own_rows, own_lines}
 use Rattle.kb_book.specs.Rows.{first_refusal}
-use Rattle.kb_book.specs.Refusals.{own_rows}
-use Rattle.kb_book.specs.Steps.{Outcome, key_of, keep, own_lines, accepted_over, billed_outcome, billed_with}
+use Rattle.kb_book.specs.Steps.{Outcome, keep, accepted_over, billed_outcome, billed_with}
+use Rattle.kb_codec.specs.Senders.{key_of}
 use Rattle.kb_book.specs.Steps.{issue_over, with_paid}
 use Rattle.kb_book.specs.SoundBooks.{IsBook}
 use Rattle.kb_book.proofs.AcceptedPayments.{AreSound, payments-sound}

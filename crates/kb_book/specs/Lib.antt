@@ -1,11 +1,11 @@
 pub mod AddedItems
 pub mod Anchors
 pub mod BilledBooks
-pub mod BlockEdits
-pub mod BlockRows
+pub mod BlockCommands
 pub mod Books
 pub mod BoundedSums
 pub mod BundleRules
+pub mod Commands
 pub mod Dues
 pub mod Edits
 pub mod Effects
@@ -14,12 +14,10 @@ pub mod NextDues
 pub mod OwnKeys
 pub mod PaymentRows
 pub mod Prices
-pub mod Refusals
 pub mod Rows
 pub mod SmallBooks
 pub mod SoundBooks
 pub mod Steps
-pub mod SubscriptionEdits
-pub mod SubscriptionRows
+pub mod SubscriptionCommands
 pub mod Wishes
 pub mod Worlds

@@ -11,7 +11,7 @@ use Rattle.kb_payment.specs.PaymentEdits.{purchase_fault, give_back_fault}
 use Rattle.kb_credit.specs.declared.row.Row.{Row}
 use Rattle.kb_credit.specs.InvoiceRows.{InvoicesValue, numbered, balance_of}
 use Rattle.kb_codec.specs.Members.{status_byte}
-use Rattle.kb_codec.specs.declared.command.Pay.{Pay}
+use Rattle.kb_codec.specs.declared.action.Pay.{Pay}
 use Rattle.kb_book.specs.declared.refusal.Refusal.{Refusal}
 use Rattle.kb_book.specs.declared.refusal.Refusal.TheVariants as refusal
 use Rattle.kb_book.specs.Rows.{Rows}

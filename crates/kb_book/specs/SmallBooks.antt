@@ -17,13 +17,14 @@ use Rattle.kb_tree.specs.Amounts.{days_cost}
 use Rattle.kb_codec.specs.Members.{name_bytes, period_bytes, optional_bytes, day_bytes, four_bytes}
 use Rattle.kb_codec.specs.declared.command.Command.{Command}
 use Rattle.kb_codec.specs.declared.command.Command.TheVariants as kinds
+use Rattle.kb_codec.specs.declared.action.Action.TheVariants as actions
 use Rattle.kb_book.specs.declared.answer.Answer.{Answer}
 use Rattle.kb_book.specs.declared.refusal.Refusal.{Refusal}
 use Rattle.kb_book.specs.declared.refusal.Refusal.TheVariants.{KeyReused}
 use Rattle.kb_book.specs.Worlds.{WorldValue}
 use Rattle.kb_book.specs.Books.{BookValue, new_book}
 use Rattle.kb_book.specs.Rows.{first_refusal}
-use Rattle.kb_book.specs.Refusals.{own_rows}
+use Rattle.kb_book.specs.Commands.{own_rows}
 use Rattle.kb_book.specs.Steps.{Outcome, accepted_over, step_over}
 use Rattle.kb_book.specs.Inner.{invoice_due, is_transition_due}
 use Rattle.kb_overdue.specs.OverdueDays.{state_on, is_reached_at}
@@ -38,29 +39,25 @@ accepted book today command = accepted_over world book today command (march 1) 3
 
 -- the account a1 in USD, with the cycle day 1
 abbrev open_a1 : Command
-open_a1 = kinds.OpenAccount (record {
-  account = codes "a1";
-  key = codes "k1";
+open_a1 = kinds.Act (codes "a1") (codes "k1") (actions.OpenAccount (record {
   currency = codes "USD";
   bcd = 1;
   autopay = false;
-})
+}))
 
 abbrev opened : BookValue
 opened = (accepted (new_book (codes "a1") (codes "USD") 1 false) (march 1) open_a1).1
 
 -- a subscription of Gold at 1000 a month starts on a day
 abbrev start_on : ℕ → Command
-start_on day = kinds.Create (record {
-  account = codes "a1";
-  key = codes "k2";
+start_on day = kinds.Act (codes "a1") (codes "k2") (actions.Create (record {
   bundle = codes "b1";
   subscription = codes "s1";
   product = codes "Gold";
   period = Monthly;
   list = codes "DEFAULT";
   day = Some day;
-})
+}))
 
 not_refused : first_refusal (own_rows world opened (march 10) (start_on (march 10))) ≡ None
 unfolding is_on
@@ -78,13 +75,11 @@ abbrev started : BookValue
 started = (accepted opened (march 1) (start_on (march 1))).1
 
 abbrev paying : BookValue
-paying = (accepted started (march 1) (kinds.Pay (record {
-  account = codes "a1";
-  key = codes "k3";
+paying = (accepted started (march 1) (kinds.Act (codes "a1") (codes "k3") (actions.Pay (record {
   payment = codes "p1";
   invoice = 1;
   amount = None;
-}))).1
+})))).1
 
 abbrev paid : BookValue
 paid = (accepted paying (march 1) (kinds.Settle (record {
@@ -94,12 +89,10 @@ paid = (accepted paying (march 1) (kinds.Settle (record {
 }))).1
 
 abbrev cancel_on : ℕ → Command
-cancel_on day = kinds.Cancel (record {
-  account = codes "a1";
-  key = codes "k4";
+cancel_on day = kinds.Act (codes "a1") (codes "k4") (actions.Cancel (record {
   subscription = codes "s1";
   day = Some day;
-})
+}))
 
 -- it is cancelled on the 25th from the 20th on: the days that were paid are given back as credit
 cancelled_answer : (accepted paid (march 25) (cancel_on (march 20))).0

@@ -1,20 +1,19 @@
 -- What a command makes of an account: its refusal, or its answer and the new book.
 use Rattle.std.specs.Prelude.{ℕ, ◌+◌, Bool, false, nat_le, List, [], ◌∷◌, ◌++◌, length, bytes_eq, Option}
-use Rattle.std.specs.Prelude.{Some, None, Result, Ok, Err, pos, neg_ℤ, if◌then◌else◌}
+use Rattle.std.specs.Prelude.{Some, None, Result, Ok, Err, if◌then◌else◌}
 use Rattle.std.specs.FinMap.{find, put}
 use Rattle.kb_sharing.specs.Keys.{by_words}
 use Rattle.kb_days.specs.Calendar.{first_day, charged_days}
 use Rattle.kb_sharing.specs.Sums.{sum_of}
 use Rattle.kb_credit.specs.declared.line.Line.{Line}
-use Rattle.kb_credit.specs.declared.line.Line.TheVariants as lines
 use Rattle.kb_credit.specs.declared.row.Row.{Row}
 use Rattle.kb_credit.specs.Items.{amount_of}
 use Rattle.kb_credit.specs.InvoiceRows.{InvoicesValue, credit, unpaid}
 use Rattle.kb_credit.specs.InvoiceEdits.{issued, levelled}
 use Rattle.kb_payment.specs.PaymentSums.{PaymentsValue, paid_on}
 use Rattle.kb_codec.specs.declared.command.Command.{Command}
-use Rattle.kb_codec.specs.declared.command.Command.TheVariants as kinds
 use Rattle.kb_codec.specs.CommandBytes.{spelling}
+use Rattle.kb_codec.specs.Senders.{key_of}
 use Rattle.kb_book.specs.declared.answer.Answer.{Answer}
 use Rattle.kb_book.specs.declared.refusal.Refusal.{Refusal}
 use Rattle.kb_book.specs.declared.refusal.Refusal.TheVariants as refusal
@@ -22,32 +21,8 @@ use Rattle.kb_book.specs.Worlds.{WorldValue}
 use Rattle.kb_book.specs.Books.{BookValue, Kept}
 use Rattle.kb_tree.specs.Issues.{Issue, issue_from}
 use Rattle.kb_book.specs.Dues.{facts_of}
-use Rattle.kb_book.specs.Edits.{begun}
+use Rattle.kb_book.specs.Commands.{begun, own_rows, own_lines, max_commands}
 use Rattle.kb_book.specs.Rows.{Rows, first_refusal, limit}
-use Rattle.kb_book.specs.Refusals.{own_rows, max_commands}
-
--- the request key of a command of a caller
-abbrev pub key_of : Command → Option (List ℕ)
-key_of (kinds.Catalog c) = Some c.key
-key_of (kinds.OverdueRules c) = Some c.key
-key_of (kinds.OpenAccount c) = Some c.key
-key_of (kinds.Create c) = Some c.key
-key_of (kinds.Change c) = Some c.key
-key_of (kinds.Cancel c) = Some c.key
-key_of (kinds.Uncancel c) = Some c.key
-key_of (kinds.Pause c) = Some c.key
-key_of (kinds.Resume c) = Some c.key
-key_of (kinds.Block c) = Some c.key
-key_of (kinds.Bill c) = Some c.key
-key_of (kinds.Charge c) = Some c.key
-key_of (kinds.Credit c) = Some c.key
-key_of (kinds.Pay c) = Some c.key
-key_of (kinds.Refund c) = Some c.key
-key_of (kinds.Chargeback c) = Some c.key
-key_of (kinds.Autopay c) = Some c.key
-key_of (kinds.Auto c) = None
-key_of (kinds.Settle c) = None
-key_of (kinds.Overdue c) = None
 
 -- what is kept of the key of a command, if it was used
 abbrev pub kept_of : BookValue → Option (List ℕ) → Option Kept
@@ -58,29 +33,6 @@ kept_of book (Some key) = find by_words key book.kept
 abbrev pub has_all_commands : BookValue → Option (List ℕ) → Bool
 has_all_commands book None = false
 has_all_commands book (Some key) = nat_le max_commands (length book.kept)
-
--- the line of a charge or a credit
-abbrev pub own_lines : Command → List Line
-own_lines (kinds.Catalog c) = []
-own_lines (kinds.OverdueRules c) = []
-own_lines (kinds.OpenAccount c) = []
-own_lines (kinds.Create c) = []
-own_lines (kinds.Change c) = []
-own_lines (kinds.Cancel c) = []
-own_lines (kinds.Uncancel c) = []
-own_lines (kinds.Pause c) = []
-own_lines (kinds.Resume c) = []
-own_lines (kinds.Block c) = []
-own_lines (kinds.Bill c) = []
-own_lines (kinds.Charge c) = lines.Charge (pos c.amount) ∷ []
-own_lines (kinds.Credit c) = lines.Credit (neg_ℤ (pos c.amount)) ∷ []
-own_lines (kinds.Pay c) = []
-own_lines (kinds.Refund c) = []
-own_lines (kinds.Chargeback c) = []
-own_lines (kinds.Autopay c) = []
-own_lines (kinds.Auto c) = []
-own_lines (kinds.Settle c) = []
-own_lines (kinds.Overdue c) = []
 
 -- the new items of a book over a number of days from one on; their numbers go on from those of all items
 abbrev pub issue_over : WorldValue → BookValue → ℕ → ℕ → Issue

@@ -1,5 +1,5 @@
 -- What the members of a command may be.
-use Rattle.std.specs.Prelude.{ℕ, ◌≤◌, ◌<◌, ◌^◌, ◌≡◌, IfSome, Ok, codes, refl}
+use Rattle.std.specs.Prelude.{ℕ, ⊤, ◌≤◌, ◌<◌, ◌^◌, ◌≡◌, IfSome, Ok, codes, refl}
 use Rattle.kb_days.specs.Names.{IsName}
 use Rattle.kb_days.specs.Calendar.{first_day, last_day}
 use Rattle.kb_money.specs.Currency.{IsCurrency}
@@ -7,6 +7,8 @@ use Rattle.kb_catalog_text.specs.Texts.{CatalogText, OverdueText, catalog_read, 
 use Rattle.kb_codec.specs.declared.amount.TheConstants.{MAX_AMOUNT}
 use Rattle.kb_codec.specs.declared.command.Command.{Command}
 use Rattle.kb_codec.specs.declared.command.Command.TheVariants as kinds
+use Rattle.kb_codec.specs.declared.action.Action.{Action}
+use Rattle.kb_codec.specs.declared.action.Action.TheVariants as actions
 
 -- a day that a command may name: from 2000-01-01 to 2099-12-31
 abbrev pub IsDay : ℕ → Type 0
@@ -32,35 +34,34 @@ IsCatalogText text = catalog_read text.text ≡ Ok text.version
 abbrev pub IsOverdueText : OverdueText → Type 0
 IsOverdueText text = overdue_read text.text ≡ Ok text.states
 
--- each member is one that its type allows
+-- each member of an action is one that its type allows
+abbrev pub IsAction : Action → Type 0
+IsAction (actions.OpenAccount c) = IsCurrency c.currency × IsBcd c.bcd
+IsAction (actions.Create c) = IsName c.bundle × IsName c.subscription × IsName c.product × IsName c.list
+    × IfSome c.day IsDay
+IsAction (actions.Change c) = IsName c.subscription × IsName c.product × IsName c.list × IfSome c.day IsDay
+IsAction (actions.Cancel c) = IsName c.subscription × IfSome c.day IsDay
+IsAction (actions.Uncancel c) = IsName c.subscription
+IsAction (actions.Pause c) = IsName c.bundle × IfSome c.day IsDay
+IsAction (actions.Resume c) = IsName c.bundle × IfSome c.day IsDay
+IsAction (actions.Block c) = IsName c.target × IsName c.service × IsName c.state × IfSome c.day IsDay
+IsAction (actions.Bill c) = IfSome c.day IsDay
+IsAction (actions.Charge c) = IsAmount c.amount
+IsAction (actions.Credit c) = IsAmount c.amount
+IsAction (actions.Pay c) = IsName c.payment × IsInvoiceNo c.invoice × IfSome c.amount IsAmount
+IsAction (actions.Refund c) = IsName c.payment × IsName c.of × IsAmount c.amount
+IsAction (actions.Chargeback c) = IsName c.payment × IsName c.of × IsAmount c.amount
+IsAction (actions.Autopay c) = ⊤
+
+-- so is each member of a command
 abbrev pub IsCommand : Command → Type 0
 IsCommand (kinds.Catalog c) = IsName c.key × IsCatalogText c.text
 IsCommand (kinds.OverdueRules c) = IsName c.key × IsOverdueText c.text
-IsCommand (kinds.OpenAccount c) = IsName c.account × IsName c.key × IsCurrency c.currency × IsBcd c.bcd
-IsCommand (kinds.Create c) = IsName c.account × IsName c.key × IsName c.bundle × IsName c.subscription
-    × IsName c.product × IsName c.list × IfSome c.day IsDay
-IsCommand (kinds.Change c) = IsName c.account × IsName c.key × IsName c.subscription × IsName c.product
-    × IsName c.list × IfSome c.day IsDay
-IsCommand (kinds.Cancel c) = IsName c.account × IsName c.key × IsName c.subscription × IfSome c.day IsDay
-IsCommand (kinds.Uncancel c) = IsName c.account × IsName c.key × IsName c.subscription
-IsCommand (kinds.Pause c) = IsName c.account × IsName c.key × IsName c.bundle × IfSome c.day IsDay
-IsCommand (kinds.Resume c) = IsName c.account × IsName c.key × IsName c.bundle × IfSome c.day IsDay
-IsCommand (kinds.Block c) = IsName c.account × IsName c.key × IsName c.target × IsName c.service
-    × IsName c.state × IfSome c.day IsDay
-IsCommand (kinds.Bill c) = IsName c.account × IsName c.key × IfSome c.day IsDay
-IsCommand (kinds.Charge c) = IsName c.account × IsName c.key × IsAmount c.amount
-IsCommand (kinds.Credit c) = IsName c.account × IsName c.key × IsAmount c.amount
-IsCommand (kinds.Pay c) = IsName c.account × IsName c.key × IsName c.payment × IsInvoiceNo c.invoice
-    × IfSome c.amount IsAmount
-IsCommand (kinds.Refund c) = IsName c.account × IsName c.key × IsName c.payment × IsName c.of
-    × IsAmount c.amount
-IsCommand (kinds.Chargeback c) = IsName c.account × IsName c.key × IsName c.payment × IsName c.of
-    × IsAmount c.amount
-IsCommand (kinds.Autopay c) = IsName c.account × IsName c.key
+IsCommand (kinds.Act account key action) = IsName account × IsName key × IsAction action
 IsCommand (kinds.Auto c) = IsName c.account × IsInvoiceNo c.invoice
 IsCommand (kinds.Settle c) = IsName c.account × IsName c.payment
 IsCommand (kinds.Overdue c) = IsName c.account
 
-an_uncancel : IsCommand (kinds.Uncancel
-    (record { account = codes "a1"; key = codes "k2"; subscription = codes "s1" }))
+an_uncancel : IsCommand
+    (kinds.Act (codes "a1") (codes "k2") (actions.Uncancel (record { subscription = codes "s1" })))
 an_uncancel = (refl, refl, refl)

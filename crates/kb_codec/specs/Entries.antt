@@ -3,6 +3,7 @@ use Rattle.std.specs.Prelude.{ℕ, ◌≡◌, List, [], ◌∷◌, ◌++◌, map
 use Rattle.kb_days.specs.Dates.{march}
 use Rattle.kb_codec.specs.declared.command.Command.{Command}
 use Rattle.kb_codec.specs.declared.command.Command.TheVariants as kinds
+use Rattle.kb_codec.specs.declared.action.Action.TheVariants as actions
 use Rattle.kb_codec.specs.CommandBytes.{spelling}
 use Rattle.kb_codec.specs.Commands.{IsDay, IsCommand}
 use Rattle.kb_codec.specs.Members.{day_bytes, four_bytes, name_bytes}
@@ -21,8 +22,7 @@ payload entry = day_bytes entry.0 ++ spelling entry.1
 
 an_uncancel : payload (
   march 25,
-  kinds.Uncancel
-      (record { account = codes "a1"; key = codes "k9"; subscription = codes "s1" }),
+  kinds.Act (codes "a1") (codes "k9") (actions.Uncancel (record { subscription = codes "s1" })),
 )
     ≡ 0 ∷ 0 ∷ 77 ∷ 95 ∷ 7 ∷ 2 ∷ 97 ∷ 49 ∷ 2 ∷ 107 ∷ 57 ∷ 2 ∷ 115 ∷ 49 ∷ []
 unfolding day_bytes four_bytes name_bytes

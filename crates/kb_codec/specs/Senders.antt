@@ -1,5 +1,5 @@
--- Whose a command is: the account that it is on, and who may send it.
-use Rattle.std.specs.Prelude.{ℕ, ◌≡◌, Bool, true, false, List, [], refl}
+-- Whose a command is: the account that it is on, its request key, and who may send it.
+use Rattle.std.specs.Prelude.{ℕ, Bool, true, false, List, [], Option, Some, None}
 use Rattle.kb_codec.specs.declared.command.Command.{Command}
 use Rattle.kb_codec.specs.declared.command.Command.TheVariants as kinds
 
@@ -7,24 +7,19 @@ use Rattle.kb_codec.specs.declared.command.Command.TheVariants as kinds
 abbrev pub account_of : Command → List ℕ
 account_of (kinds.Catalog c) = []
 account_of (kinds.OverdueRules c) = []
-account_of (kinds.OpenAccount c) = c.account
-account_of (kinds.Create c) = c.account
-account_of (kinds.Change c) = c.account
-account_of (kinds.Cancel c) = c.account
-account_of (kinds.Uncancel c) = c.account
-account_of (kinds.Pause c) = c.account
-account_of (kinds.Resume c) = c.account
-account_of (kinds.Block c) = c.account
-account_of (kinds.Bill c) = c.account
-account_of (kinds.Charge c) = c.account
-account_of (kinds.Credit c) = c.account
-account_of (kinds.Pay c) = c.account
-account_of (kinds.Refund c) = c.account
-account_of (kinds.Chargeback c) = c.account
-account_of (kinds.Autopay c) = c.account
+account_of (kinds.Act account key action) = account
 account_of (kinds.Auto c) = c.account
 account_of (kinds.Settle c) = c.account
 account_of (kinds.Overdue c) = c.account
+
+-- the request key of a command of a caller
+abbrev pub key_of : Command → Option (List ℕ)
+key_of (kinds.Catalog c) = Some c.key
+key_of (kinds.OverdueRules c) = Some c.key
+key_of (kinds.Act account key action) = Some key
+key_of (kinds.Auto c) = None
+key_of (kinds.Settle c) = None
+key_of (kinds.Overdue c) = None
 
 -- a command is a text
 abbrev pub is_text : Command → Bool

@@ -4,8 +4,8 @@ use Rattle.kb_days.specs.declared.period.Period.TheVariants as periods
 use Rattle.kb_payment.specs.declared.attempt.Status.TheVariants as statuses
 use Rattle.kb_codec.specs.declared.scope.BlockScope.TheVariants as scopes
 use Rattle.kb_codec.specs.Reading.{four_in, eight_in, name_in, currency_in, bcd_in, day_in, invoice_in}
-use Rattle.kb_codec.specs.Reading.{amount_in, truth_in, optional_in, period_in, scope_in, status_in}
-use Rattle.kb_codec.specs.Reading.{flags_in, text_in}
+use Rattle.kb_codec.specs.Reading.{amount_in, truth_in, optional_in, period_in, scope_in, status_in, flags_in}
+use Rattle.kb_codec.specs.Reading.{text_in}
 
 a_name : name_in (2 ∷ 97 ∷ 49 ∷ 7 ∷ []) ≡ Some (codes "a1", 7 ∷ [])
 unfolding name_in

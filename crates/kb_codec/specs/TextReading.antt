@@ -5,8 +5,8 @@ use Rattle.toml.proofs.OnLiterals.{toml_on_literals}
 use Rattle.kb_catalog.specs.declared.version.Version.{Version}
 use Rattle.kb_overdue.specs.declared.state.OverdueState.{OverdueState}
 use Rattle.kb_catalog_text.specs.declared.fault.TextFault.{TextFault}
-use Rattle.kb_catalog_text.specs.Texts.{CatalogText, OverdueText, catalog_read, overdue_read}
-use Rattle.kb_catalog_text.specs.Texts.{text_read, document_of}
+use Rattle.kb_catalog_text.specs.Texts.{CatalogText, OverdueText, catalog_read, overdue_read, text_read}
+use Rattle.kb_catalog_text.specs.Texts.{document_of}
 use Rattle.kb_catalog_text.specs.OverdueText.{states_in}
 use Rattle.kb_overdue.specs.ConfigRules.{fault_of, is_broken_at}
 use Rattle.kb_catalog_text.specs.Reads.{keys_read, first_failing, read_or}

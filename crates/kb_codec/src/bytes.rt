@@ -1,18 +1,13 @@
 //! Commands as bytes, and back.
-ghost use Rattle.std.specs.Prelude.{◌≡◌, ◌≤◌, IfOk, IfSome, Some, None, slice_get};
-ghost use Rattle.std.specs.Option.{option_and_then};
+ghost use Rattle.std.specs.Prelude.{◌≡◌, IfOk, IfSome, Some, None};
 ghost use Rattle.kb_codec.specs.CommandBytes.{spelling};
 ghost use Rattle.kb_codec.specs.Commands.{IsCommand};
 ghost use Rattle.kb_codec.specs.declared.command.Command.{Command as AnyCommand};
 ghost use Rattle.kb_codec.specs.Reading.{Reads};
-ghost use Rattle.kb_codec.specs.Private.Parts.{readers, command_in, ended, whole};
+ghost use Rattle.kb_codec.specs.Private.Parts.{command_in, ended, whole};
 
 use crate::command::Command;
-use crate::reading::{
-    read_auto_pay, read_autopay, read_bill, read_block, read_cancel, read_change, read_charge,
-    read_chargeback, read_create, read_credit, read_open_account, read_overdue_state, read_pause,
-    read_pay, read_refund, read_resume, read_settle, read_uncancel,
-};
+use crate::reading::read_plain;
 use crate::rest::Rest;
 use crate::texts::{read_catalog_text, read_overdue_rules};
 use crate::writing::put_command;
@@ -72,34 +67,5 @@ fn read_command(alloc: Global, rest: &mut Rest<'_>) -> Result<Option<Command>, N
         1 => read_catalog_text(alloc, rest),
         2 => read_overdue_rules(alloc, rest),
         _ => Ok(read_plain(kind, rest)),
-    }
-}
-
-/// The members of a command of a kind without a text.
-fn read_plain(kind: u8, rest: &mut Rest<'_>) -> Option<Command>
-    requires { 3 ≤ kind }
-    ensures { Reads (λ bytes. option_and_then (λ read. read bytes) (slice_get readers kind)) rest.old result
-        rest.new }
-{
-    match kind {
-        3 => read_open_account(rest),
-        4 => read_create(rest),
-        5 => read_change(rest),
-        6 => read_cancel(rest),
-        7 => read_uncancel(rest),
-        8 => read_pause(rest),
-        9 => read_resume(rest),
-        10 => read_block(rest),
-        11 => read_bill(rest),
-        12 => read_charge(rest),
-        13 => read_credit(rest),
-        14 => read_pay(rest),
-        15 => read_refund(rest),
-        16 => read_chargeback(rest),
-        17 => read_autopay(rest),
-        18 => read_auto_pay(rest),
-        19 => read_settle(rest),
-        20 => read_overdue_state(rest),
-        _ => None,
     }
 }

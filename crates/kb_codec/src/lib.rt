@@ -7,6 +7,7 @@
 //! speak of the commands that were accepted as a history of entries, each a command with its day.
 #![tactic(auto)]
 
+mod action;
 mod amount;
 mod bytes;
 mod command;
@@ -19,11 +20,12 @@ mod text_members;
 mod texts;
 mod writing;
 
+pub use action::{
+    Action, Autopay, Bill, Block, Cancel, Change, Charge, Chargeback, Create, Credit, OpenAccount,
+    Pause, Pay, Refund, Resume, Uncancel,
+};
 pub use amount::{Amount, MAX_AMOUNT};
 pub use bytes::{decode, encode};
-pub use command::{
-    Auto, Autopay, Bill, Block, Cancel, Catalog, Change, Charge, Chargeback, Command, Create,
-    Credit, OpenAccount, Overdue, OverdueRules, Pause, Pay, Refund, Resume, Settle, Uncancel,
-};
+pub use command::{Auto, Catalog, Command, Overdue, OverdueRules, Settle};
 pub use invoice_no::InvoiceNo;
 pub use scope::BlockScope;

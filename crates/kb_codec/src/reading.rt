@@ -1,5 +1,8 @@
 //! The kinds of commands without a text, read from what is left of some bytes.
+ghost use Rattle.std.specs.Prelude.{◌≤◌, slice_get};
+ghost use Rattle.std.specs.Option.{option_and_then};
 ghost use Rattle.kb_codec.specs.Reading.{Reads, into};
+ghost use Rattle.kb_codec.specs.Private.Parts.{readers, acts};
 ghost use Rattle.kb_codec.specs.Private.Parts.{open_account, create, change, cancel, uncancel, pause};
 ghost use Rattle.kb_codec.specs.Private.Parts.{resume, block, bill, charge, credit, pay, refund};
 ghost use Rattle.kb_codec.specs.Private.Parts.{chargeback, autopay, auto_pay, settle, overdue_state};
@@ -8,188 +11,246 @@ ghost use Rattle.kb_codec.specs.Private.Parts.{uncancel_of, pause_of, resume_of,
 ghost use Rattle.kb_codec.specs.Private.Parts.{charge_of, credit_of, pay_of, refund_of, chargeback_of};
 ghost use Rattle.kb_codec.specs.Private.Parts.{autopay_of, auto_pay_of, settle_of, overdue_state_of};
 
-use crate::command::{
-    Auto, Autopay, Bill, Block, Cancel, Change, Charge, Chargeback, Command, Create, Credit,
-    OpenAccount, Overdue, Pause, Pay, Refund, Resume, Settle, Uncancel,
+use crate::action::{
+    Action, Autopay, Bill, Block, Cancel, Change, Charge, Chargeback, Create, Credit, OpenAccount,
+    Pause, Pay, Refund, Resume, Uncancel,
 };
+use crate::command::{Auto, Command, Overdue, Settle};
 use crate::rest::Rest;
 
-pub(crate) fn read_open_account(rest: &mut Rest<'_>) -> Option<Command>
-    ensures { Reads (into open_account_of open_account.read) rest.old result rest.new }
+/// The members of a command of a kind without a text.
+pub(crate) fn read_plain(kind: u8, rest: &mut Rest<'_>) -> Option<Command>
+    requires { 3 ≤ kind }
+    ensures { Reads (λ bytes. option_and_then (λ read. read bytes) (slice_get readers kind)) rest.old result
+        rest.new }
 {
-    Some(Command::OpenAccount(OpenAccount {
-        account: rest.name()?,
-        key: rest.name()?,
-        currency: rest.currency()?,
-        bcd: rest.bcd()?,
-        autopay: rest.truth()?,
-    }))
+    match kind {
+        3 => read_open_account(rest),
+        4 => read_create(rest),
+        5 => read_change(rest),
+        6 => read_cancel(rest),
+        7 => read_uncancel(rest),
+        8 => read_pause(rest),
+        9 => read_resume(rest),
+        10 => read_block(rest),
+        11 => read_bill(rest),
+        12 => read_charge(rest),
+        13 => read_credit(rest),
+        14 => read_pay(rest),
+        15 => read_refund(rest),
+        16 => read_chargeback(rest),
+        17 => read_autopay(rest),
+        18 => read_auto_pay(rest),
+        19 => read_settle(rest),
+        20 => read_overdue_state(rest),
+        _ => None,
+    }
 }
 
-pub(crate) fn read_create(rest: &mut Rest<'_>) -> Option<Command>
-    ensures { Reads (into create_of create.read) rest.old result rest.new }
+fn read_open_account(rest: &mut Rest<'_>) -> Option<Command>
+    ensures { Reads (acts open_account_of open_account) rest.old result rest.new }
 {
-    Some(Command::Create(Create {
+    Some(Command::Act {
         account: rest.name()?,
         key: rest.name()?,
-        bundle: rest.name()?,
-        subscription: rest.name()?,
-        product: rest.name()?,
-        period: rest.period()?,
-        list: rest.name()?,
-        day: rest.optional_day()?,
-    }))
+        action: Action::OpenAccount(OpenAccount {
+            currency: rest.currency()?,
+            bcd: rest.bcd()?,
+            autopay: rest.truth()?,
+        }),
+    })
 }
 
-pub(crate) fn read_change(rest: &mut Rest<'_>) -> Option<Command>
-    ensures { Reads (into change_of change.read) rest.old result rest.new }
+fn read_create(rest: &mut Rest<'_>) -> Option<Command>
+    ensures { Reads (acts create_of create) rest.old result rest.new }
 {
-    Some(Command::Change(Change {
+    Some(Command::Act {
         account: rest.name()?,
         key: rest.name()?,
-        subscription: rest.name()?,
-        product: rest.name()?,
-        period: rest.period()?,
-        list: rest.name()?,
-        day: rest.optional_day()?,
-    }))
+        action: Action::Create(Create {
+            bundle: rest.name()?,
+            subscription: rest.name()?,
+            product: rest.name()?,
+            period: rest.period()?,
+            list: rest.name()?,
+            day: rest.optional_day()?,
+        }),
+    })
 }
 
-pub(crate) fn read_cancel(rest: &mut Rest<'_>) -> Option<Command>
-    ensures { Reads (into cancel_of cancel.read) rest.old result rest.new }
+fn read_change(rest: &mut Rest<'_>) -> Option<Command>
+    ensures { Reads (acts change_of change) rest.old result rest.new }
 {
-    Some(Command::Cancel(Cancel {
+    Some(Command::Act {
         account: rest.name()?,
         key: rest.name()?,
-        subscription: rest.name()?,
-        day: rest.optional_day()?,
-    }))
+        action: Action::Change(Change {
+            subscription: rest.name()?,
+            product: rest.name()?,
+            period: rest.period()?,
+            list: rest.name()?,
+            day: rest.optional_day()?,
+        }),
+    })
 }
 
-pub(crate) fn read_uncancel(rest: &mut Rest<'_>) -> Option<Command>
-    ensures { Reads (into uncancel_of uncancel.read) rest.old result rest.new }
+fn read_cancel(rest: &mut Rest<'_>) -> Option<Command>
+    ensures { Reads (acts cancel_of cancel) rest.old result rest.new }
 {
-    Some(Command::Uncancel(Uncancel {
+    Some(Command::Act {
         account: rest.name()?,
         key: rest.name()?,
-        subscription: rest.name()?,
-    }))
+        action: Action::Cancel(Cancel {
+            subscription: rest.name()?,
+            day: rest.optional_day()?,
+        }),
+    })
 }
 
-pub(crate) fn read_pause(rest: &mut Rest<'_>) -> Option<Command>
-    ensures { Reads (into pause_of pause.read) rest.old result rest.new }
+fn read_uncancel(rest: &mut Rest<'_>) -> Option<Command>
+    ensures { Reads (acts uncancel_of uncancel) rest.old result rest.new }
 {
-    Some(Command::Pause(Pause {
+    Some(Command::Act {
         account: rest.name()?,
         key: rest.name()?,
-        bundle: rest.name()?,
-        day: rest.optional_day()?,
-    }))
+        action: Action::Uncancel(Uncancel {
+            subscription: rest.name()?,
+        }),
+    })
 }
 
-pub(crate) fn read_resume(rest: &mut Rest<'_>) -> Option<Command>
-    ensures { Reads (into resume_of resume.read) rest.old result rest.new }
+fn read_pause(rest: &mut Rest<'_>) -> Option<Command>
+    ensures { Reads (acts pause_of pause) rest.old result rest.new }
 {
-    Some(Command::Resume(Resume {
+    Some(Command::Act {
         account: rest.name()?,
         key: rest.name()?,
-        bundle: rest.name()?,
-        day: rest.optional_day()?,
-    }))
+        action: Action::Pause(Pause {
+            bundle: rest.name()?,
+            day: rest.optional_day()?,
+        }),
+    })
 }
 
-pub(crate) fn read_block(rest: &mut Rest<'_>) -> Option<Command>
-    ensures { Reads (into block_of block.read) rest.old result rest.new }
+fn read_resume(rest: &mut Rest<'_>) -> Option<Command>
+    ensures { Reads (acts resume_of resume) rest.old result rest.new }
 {
-    Some(Command::Block(Block {
+    Some(Command::Act {
         account: rest.name()?,
         key: rest.name()?,
-        scope: rest.scope()?,
-        target: rest.name()?,
-        service: rest.name()?,
-        state: rest.name()?,
-        day: rest.optional_day()?,
-        flags: rest.flags()?,
-    }))
+        action: Action::Resume(Resume {
+            bundle: rest.name()?,
+            day: rest.optional_day()?,
+        }),
+    })
 }
 
-pub(crate) fn read_bill(rest: &mut Rest<'_>) -> Option<Command>
-    ensures { Reads (into bill_of bill.read) rest.old result rest.new }
+fn read_block(rest: &mut Rest<'_>) -> Option<Command>
+    ensures { Reads (acts block_of block) rest.old result rest.new }
 {
-    Some(Command::Bill(Bill {
+    Some(Command::Act {
         account: rest.name()?,
         key: rest.name()?,
-        day: rest.optional_day()?,
-    }))
+        action: Action::Block(Block {
+            scope: rest.scope()?,
+            target: rest.name()?,
+            service: rest.name()?,
+            state: rest.name()?,
+            day: rest.optional_day()?,
+            flags: rest.flags()?,
+        }),
+    })
 }
 
-pub(crate) fn read_charge(rest: &mut Rest<'_>) -> Option<Command>
-    ensures { Reads (into charge_of charge.read) rest.old result rest.new }
+fn read_bill(rest: &mut Rest<'_>) -> Option<Command>
+    ensures { Reads (acts bill_of bill) rest.old result rest.new }
 {
-    Some(Command::Charge(Charge {
+    Some(Command::Act {
         account: rest.name()?,
         key: rest.name()?,
-        amount: rest.amount()?,
-    }))
+        action: Action::Bill(Bill {
+            day: rest.optional_day()?,
+        }),
+    })
 }
 
-pub(crate) fn read_credit(rest: &mut Rest<'_>) -> Option<Command>
-    ensures { Reads (into credit_of credit.read) rest.old result rest.new }
+fn read_charge(rest: &mut Rest<'_>) -> Option<Command>
+    ensures { Reads (acts charge_of charge) rest.old result rest.new }
 {
-    Some(Command::Credit(Credit {
+    Some(Command::Act {
         account: rest.name()?,
         key: rest.name()?,
-        amount: rest.amount()?,
-    }))
+        action: Action::Charge(Charge {
+            amount: rest.amount()?,
+        }),
+    })
 }
 
-pub(crate) fn read_pay(rest: &mut Rest<'_>) -> Option<Command>
-    ensures { Reads (into pay_of pay.read) rest.old result rest.new }
+fn read_credit(rest: &mut Rest<'_>) -> Option<Command>
+    ensures { Reads (acts credit_of credit) rest.old result rest.new }
 {
-    Some(Command::Pay(Pay {
+    Some(Command::Act {
         account: rest.name()?,
         key: rest.name()?,
-        payment: rest.name()?,
-        invoice: rest.invoice()?,
-        amount: rest.optional_amount()?,
-    }))
+        action: Action::Credit(Credit {
+            amount: rest.amount()?,
+        }),
+    })
 }
 
-pub(crate) fn read_refund(rest: &mut Rest<'_>) -> Option<Command>
-    ensures { Reads (into refund_of refund.read) rest.old result rest.new }
+fn read_pay(rest: &mut Rest<'_>) -> Option<Command>
+    ensures { Reads (acts pay_of pay) rest.old result rest.new }
 {
-    Some(Command::Refund(Refund {
+    Some(Command::Act {
         account: rest.name()?,
         key: rest.name()?,
-        payment: rest.name()?,
-        of: rest.name()?,
-        amount: rest.amount()?,
-    }))
+        action: Action::Pay(Pay {
+            payment: rest.name()?,
+            invoice: rest.invoice()?,
+            amount: rest.optional_amount()?,
+        }),
+    })
 }
 
-pub(crate) fn read_chargeback(rest: &mut Rest<'_>) -> Option<Command>
-    ensures { Reads (into chargeback_of chargeback.read) rest.old result rest.new }
+fn read_refund(rest: &mut Rest<'_>) -> Option<Command>
+    ensures { Reads (acts refund_of refund) rest.old result rest.new }
 {
-    Some(Command::Chargeback(Chargeback {
+    Some(Command::Act {
         account: rest.name()?,
         key: rest.name()?,
-        payment: rest.name()?,
-        of: rest.name()?,
-        amount: rest.amount()?,
-    }))
+        action: Action::Refund(Refund {
+            payment: rest.name()?,
+            of: rest.name()?,
+            amount: rest.amount()?,
+        }),
+    })
 }
 
-pub(crate) fn read_autopay(rest: &mut Rest<'_>) -> Option<Command>
-    ensures { Reads (into autopay_of autopay.read) rest.old result rest.new }
+fn read_chargeback(rest: &mut Rest<'_>) -> Option<Command>
+    ensures { Reads (acts chargeback_of chargeback) rest.old result rest.new }
 {
-    Some(Command::Autopay(Autopay {
+    Some(Command::Act {
         account: rest.name()?,
         key: rest.name()?,
-        on: rest.truth()?,
-    }))
+        action: Action::Chargeback(Chargeback {
+            payment: rest.name()?,
+            of: rest.name()?,
+            amount: rest.amount()?,
+        }),
+    })
 }
 
-pub(crate) fn read_auto_pay(rest: &mut Rest<'_>) -> Option<Command>
+fn read_autopay(rest: &mut Rest<'_>) -> Option<Command>
+    ensures { Reads (acts autopay_of autopay) rest.old result rest.new }
+{
+    Some(Command::Act {
+        account: rest.name()?,
+        key: rest.name()?,
+        action: Action::Autopay(Autopay { on: rest.truth()? }),
+    })
+}
+
+fn read_auto_pay(rest: &mut Rest<'_>) -> Option<Command>
     ensures { Reads (into auto_pay_of auto_pay.read) rest.old result rest.new }
 {
     Some(Command::Auto(Auto {
@@ -198,7 +259,7 @@ pub(crate) fn read_auto_pay(rest: &mut Rest<'_>) -> Option<Command>
     }))
 }
 
-pub(crate) fn read_settle(rest: &mut Rest<'_>) -> Option<Command>
+fn read_settle(rest: &mut Rest<'_>) -> Option<Command>
     ensures { Reads (into settle_of settle.read) rest.old result rest.new }
 {
     Some(Command::Settle(Settle {
@@ -208,7 +269,7 @@ pub(crate) fn read_settle(rest: &mut Rest<'_>) -> Option<Command>
     }))
 }
 
-pub(crate) fn read_overdue_state(rest: &mut Rest<'_>) -> Option<Command>
+fn read_overdue_state(rest: &mut Rest<'_>) -> Option<Command>
     ensures { Reads (into overdue_state_of overdue_state.read) rest.old result rest.new }
 {
     Some(Command::Overdue(Overdue {

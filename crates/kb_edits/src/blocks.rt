@@ -2,8 +2,8 @@
 ghost use Rattle.std.specs.Prelude.{◌≡◌, Some, None, is_some, OnOk, IfOk, IfErr, IfSome};
 ghost use Rattle.kb_book.specs.Wishes.{asked_day};
 ghost use Rattle.kb_book.specs.Rows.{first_refusal, IsUnprepared};
-ghost use Rattle.kb_book.specs.BlockRows.{has_target, block_rows};
-ghost use Rattle.kb_book.specs.BlockEdits as told;
+ghost use Rattle.kb_book.specs.BlockCommands.{has_target, block_rows};
+ghost use Rattle.kb_book.specs.BlockCommands as told;
 
 use crate::states::with_state;
 use crate::words::is_reserved;

@@ -1,8 +1,9 @@
 //! A cancellation, and its end.
 ghost use Rattle.std.specs.Prelude.{◌≡◌, ◌≤◌, ◌<◌, length, slice_get, Some, None, IfSome, OnOk, IfOk, IfErr};
 ghost use Rattle.kb_book.specs.Rows.{first_refusal, IsUnprepared};
-ghost use Rattle.kb_book.specs.SubscriptionEdits as told;
-ghost use Rattle.kb_book.specs.SubscriptionRows.{of_named, cancel_rows_of, cancel_rows_by, uncancel_rows_of};
+ghost use Rattle.kb_book.specs.SubscriptionCommands as told;
+ghost use Rattle.kb_book.specs.SubscriptionCommands.{of_named, cancel_rows_of, cancel_rows_by};
+ghost use Rattle.kb_book.specs.SubscriptionCommands.{uncancel_rows_of};
 
 use crate::bundle::is_over;
 use crate::changes::named_effect;

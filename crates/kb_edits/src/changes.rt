@@ -4,9 +4,9 @@ ghost use Rattle.std.specs.Prelude.{IfSome, OnOk, IfOk, IfErr};
 ghost use Rattle.kb_days.specs.Calendar.{first_day};
 ghost use Rattle.kb_timeline.specs.EntryDays.{is_before_start};
 ghost use Rattle.kb_book.specs.Rows.{first_refusal, IsUnprepared};
-ghost use Rattle.kb_book.specs.SubscriptionEdits as told;
-ghost use Rattle.kb_book.specs.SubscriptionRows.{of_named, change_rows_of, change_rows_by, entry_rows};
-ghost use Rattle.kb_book.specs.SubscriptionRows.{is_too_late};
+ghost use Rattle.kb_book.specs.SubscriptionCommands as told;
+ghost use Rattle.kb_book.specs.SubscriptionCommands.{of_named, change_rows_of, change_rows_by, entry_rows};
+ghost use Rattle.kb_book.specs.SubscriptionCommands.{is_too_late};
 
 use crate::anchor::change_anchor;
 use crate::bundle::{breaks_bundle, is_over};

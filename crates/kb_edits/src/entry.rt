@@ -1,6 +1,6 @@
 //! The plan of an entry.
 ghost use Rattle.std.specs.Prelude.{◌≡◌};
-ghost use Rattle.kb_book.specs.SubscriptionEdits as told;
+ghost use Rattle.kb_book.specs.SubscriptionCommands as told;
 
 use kb_timeline::PlanRef;
 

@@ -3,8 +3,8 @@ ghost use Rattle.std.specs.Prelude.{◌≡◌, Some, None, OnOk, IfOk, IfErr};
 ghost use Rattle.kb_book.specs.Wishes.{asked_day};
 ghost use Rattle.kb_timeline.specs.TimelineEdits.{bundle_named};
 ghost use Rattle.kb_book.specs.Rows.{first_refusal, IsUnprepared};
-ghost use Rattle.kb_book.specs.BlockRows.{pause_rows};
-ghost use Rattle.kb_book.specs.BlockEdits as told;
+ghost use Rattle.kb_book.specs.BlockCommands.{pause_rows};
+ghost use Rattle.kb_book.specs.BlockCommands as told;
 
 use crate::states::with_state;
 use crate::words::own_name;

@@ -4,8 +4,8 @@ ghost use Rattle.kb_timeline.specs.TimelineEdits.{bundle_named};
 ghost use Rattle.kb_book.specs.Wishes.{plan_asked};
 ghost use Rattle.kb_book.specs.Anchors.{create_anchor};
 ghost use Rattle.kb_book.specs.Rows.{first_refusal, IsUnprepared};
-ghost use Rattle.kb_book.specs.SubscriptionEdits as told;
-ghost use Rattle.kb_book.specs.SubscriptionRows.{bundle_chain, create_rows};
+ghost use Rattle.kb_book.specs.SubscriptionCommands as told;
+ghost use Rattle.kb_book.specs.SubscriptionCommands.{bundle_chain, create_rows};
 
 use crate::anchor::create_anchor;
 use crate::bundle::{is_add_on, may_join};

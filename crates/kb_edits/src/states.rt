@@ -1,8 +1,8 @@
 //! A blocking state that is accepted.
 ghost use Rattle.std.specs.Prelude.{◌≡◌, None, OnOk, IfOk, IfErr, option_copied};
 ghost use Rattle.kb_book.specs.Rows.{first_refusal, IsUnprepared};
-ghost use Rattle.kb_book.specs.BlockRows.{state_rows};
-ghost use Rattle.kb_book.specs.BlockEdits as told;
+ghost use Rattle.kb_book.specs.BlockCommands.{state_rows};
+ghost use Rattle.kb_book.specs.BlockCommands as told;
 
 use crate::words::own_name;
 use kb_blocking::{BlockState, Blocks, Flags, MAX_STATES, Scope};

@@ -1,7 +1,7 @@
 //! Names and keys that are the platform's own.
 ghost use Rattle.std.specs.Prelude.{◌≡◌};
 ghost use Rattle.kb_days.specs.Names.{IsName};
-ghost use Rattle.kb_book.specs.BlockRows.{is_reserved};
+ghost use Rattle.kb_book.specs.BlockCommands.{is_reserved};
 ghost use Rattle.kb_book.specs.PaymentRows.{is_own_key};
 
 use kb_days::Name;

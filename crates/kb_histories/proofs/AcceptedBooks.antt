@@ -12,6 +12,7 @@ use Rattle.kb_payment.specs.PaymentSums.{PaymentsValue, attempt_of, with_attempt
 use Rattle.kb_payment.specs.PaymentEdits.{amount_of, purchase_of, give_back_of, given_back, settled}
 use Rattle.kb_codec.specs.declared.command.Command.{Command}
 use Rattle.kb_codec.specs.declared.command.Command.TheVariants as kinds
+use Rattle.kb_codec.specs.declared.action.Action.TheVariants as actions
 use Rattle.kb_codec.specs.declared.command.Auto.{Auto}
 use Rattle.kb_codec.specs.declared.command.Settle.{Settle}
 use Rattle.kb_book.specs.declared.refusal.Refusal.TheVariants as refusal
@@ -19,9 +20,10 @@ use Rattle.kb_book.specs.Worlds.{WorldValue}
 use Rattle.kb_book.specs.Books.{BookValue}
 use Rattle.kb_book.specs.PaymentRows.{balance_at, may_settle, same_status}
 use Rattle.kb_book.specs.Rows.{first_refusal, limit}
-use Rattle.kb_book.specs.Refusals.{own_rows, max_commands}
-use Rattle.kb_book.specs.Edits.{auto_key, begun}
-use Rattle.kb_book.specs.Steps.{Outcome, key_of, keep, own_lines, accepted_over, billed_outcome, issue_over}
+use Rattle.kb_book.specs.Commands.{own_rows, max_commands, begun, own_lines}
+use Rattle.kb_book.specs.Edits.{auto_key}
+use Rattle.kb_book.specs.Steps.{Outcome, keep, accepted_over, billed_outcome, issue_over}
+use Rattle.kb_codec.specs.Senders.{key_of}
 use Rattle.kb_book.specs.Steps.{rows_of, has_all_commands}
 use Rattle.kb_book.proofs.AcceptedPayments.{first-none, due-found, pay-new}
 use Rattle.kb_book.proofs.FreshKeys.{fresh-due}
@@ -58,7 +60,7 @@ found-stays payments own key attempt new none is =
 -- a command's own edit leaves the name
 begun-account : (world : WorldValue) (book : BookValue) (today : ℕ) (command : Command)
     → (begun world book today command).account ≡ book.account
-begun-account world book today (kinds.Catalog c) = refl
+begun-account world book today (kinds.Act account key (actions.Create c)) = refl
 begun-account world book today command = refl
 
 module _ (world : WorldValue) (book : BookValue) (today : ℕ) (command : Command) where
@@ -103,11 +105,11 @@ module _ (world : WorldValue) (book : BookValue) (today : ℕ) where
   pub key-free : (command : Command) (key : List ℕ) → IsKeyed book → today ≤ last_day
       → first_refusal (own_rows world book today command) ≡ None
       → begun_key today command ≡ Some key → attempt_of book.payments key ≡ None
-  key-free (kinds.Pay c) key keyed last none is =
+  key-free (kinds.Act account request (actions.Pay c)) key keyed last none is =
       let same : c.payment ≡ key = cc in
       rw (← same) (no-attempt (attempt_of book.payments c.payment)
       (pay-new book.payments book.invoices c none).1)
-  key-free (kinds.Refund c) key keyed last none is =
+  key-free (kinds.Act account request (actions.Refund c)) key keyed last none is =
       let same : c.payment ≡ key = cc in
       rw (← same) (give_back-found book.payments c.payment c.of c.amount none).0
   key-free (kinds.Auto c) key keyed last none is =
@@ -120,12 +122,12 @@ module _ (world : WorldValue) (book : BookValue) (today : ℕ) where
       → first_refusal (own_rows world book today command) ≡ None → begun_key today command ≡ Some key
       → (attempt : Attempt) × (attempt_of (begun_payments command) key ≡ Some attempt)
       × (attempt.status ≡ Unknown)
-  begun-found (kinds.Pay c) key none is =
+  begun-found (kinds.Act account request (actions.Pay c)) key none is =
       let same : c.payment ≡ key = cc in
       let attempt : Attempt = purchase_of c.invoice (amount_of (balance_at book.invoices c.invoice) c.amount)
       today false in
       (attempt, rw (← same) (find-put-self c.payment attempt book.payments), refl)
-  begun-found (kinds.Refund c) key none is =
+  begun-found (kinds.Act account request (actions.Refund c)) key none is =
       let same : c.payment ≡ key = cc in
       let found = give_back-found book.payments c.payment c.of c.amount none in
       let attempt : Attempt = give_back_of Refund Unknown c.of found.1.0 c.amount today in
@@ -194,14 +196,14 @@ module _ (world : WorldValue) (book : BookValue) (today : ℕ) where
       → ((c : Settle) → command ≡ kinds.Settle c
       → (bytes_eq key c.payment ≡ false) ⊎ (is_open attempt.status ≡ false))
       → attempt_of (begun_payments command) key ≡ Some attempt
-  begun-stays (kinds.Pay c) key attempt keyed last none is stays =
+  begun-stays (kinds.Act account request (actions.Pay c)) key attempt keyed last none is stays =
       found-stays book.payments c.payment key attempt
       (purchase_of c.invoice (amount_of (balance_at book.invoices c.invoice) c.amount) today false)
-      (key-free (kinds.Pay c) c.payment keyed last none refl) is
-  begun-stays (kinds.Refund c) key attempt keyed last none is stays =
+      (key-free (kinds.Act account request (actions.Pay c)) c.payment keyed last none refl) is
+  begun-stays (kinds.Act account request (actions.Refund c)) key attempt keyed last none is stays =
       given_back-stays Refund Unknown c.payment c.of key c.amount attempt
       (give_back-found book.payments c.payment c.of c.amount none).0 is
-  begun-stays (kinds.Chargeback c) key attempt keyed last none is stays =
+  begun-stays (kinds.Act account request (actions.Chargeback c)) key attempt keyed last none is stays =
       given_back-stays Chargeback Success c.payment c.of key c.amount attempt
       (give_back-found book.payments c.payment c.of c.amount none).0 is
   begun-stays (kinds.Auto c) key attempt keyed last none is stays =

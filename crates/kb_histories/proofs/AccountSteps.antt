@@ -7,6 +7,7 @@ use Rattle.kb_days.specs.Calendar.{first_day, charged_days}
 use Rattle.kb_sharing.specs.Keys.{by_words}
 use Rattle.kb_codec.specs.declared.command.Command.{Command}
 use Rattle.kb_codec.specs.declared.command.Command.TheVariants as kinds
+use Rattle.kb_codec.specs.declared.action.Action.TheVariants as actions
 use Rattle.kb_codec.specs.CommandBytes.{spelling}
 use Rattle.kb_book.specs.declared.answer.Answer.{Answer}
 use Rattle.kb_book.specs.declared.refusal.Refusal.{Refusal}
@@ -14,14 +15,14 @@ use Rattle.kb_book.specs.declared.refusal.Refusal.TheVariants as refusal
 use Rattle.kb_book.specs.Worlds.{WorldValue}
 use Rattle.kb_book.specs.Books.{BookValue, Kept}
 use Rattle.kb_book.specs.Rows.{first_refusal}
-use Rattle.kb_book.specs.Steps.{Outcome, key_of, kept_of, accepted_over}
+use Rattle.kb_book.specs.Steps.{Outcome, kept_of, accepted_over}
 use Rattle.kb_account.specs.Prepares.{opening_book}
 use Rattle.kb_book.specs.declared.reply.LaneReply.{LaneReply}
 use Rattle.kb_book.specs.declared.reply.LaneReply.TheVariants as replies
 use Rattle.kb_machine.specs.Judged.{Judged, New, Again, Refused, unless_refused, lifted, after_judged}
-use Rattle.kb_machine.specs.Machines.{MachineValue, book_of, with_book, by_book, account_judged}
+use Rattle.kb_machine.specs.Machines.{MachineValue, book_of, with_book, by_book, account_judged, opening}
 use Rattle.kb_machine.specs.Machines.{absent_judged, book_judged, opening_rows, of_outcome}
-use Rattle.kb_codec.specs.Senders.{account_of}
+use Rattle.kb_codec.specs.Senders.{account_of, key_of}
 use Rattle.kb_histories.specs.RequestKeys.{Scope, CatalogTexts, OverdueTexts, OfAccount}
 use Rattle.kb_book.proofs.RepeatedCommands.{find-put-self}
 use Rattle.kb_histories.proofs.PutEntries.{find-put-other}
@@ -86,21 +87,21 @@ book-new world book today command key answer after named is = by_kept (kept_of b
 opened-new : (machine : MachineValue) (today : ℕ) (command : Command) (key : List ℕ) (answer : Answer)
     (after : BookValue) → key_of command ≡ Some key → absent_judged machine today command ≡ New answer after
     → told_in key (Some after) ≡ Some (spelling command, replies.Accepted answer)
-opened-new machine today (kinds.OpenAccount c) key answer after named is =
+opened-new machine today (kinds.Act name request (actions.OpenAccount c)) key answer after named is =
     by_rows (first_refusal (opening_rows machine)) is
   where
     accepted : Outcome
-    accepted = accepted_over machine.texts.world (opening_book (kinds.OpenAccount c)) today
-        (kinds.OpenAccount c) first_day charged_days
+    accepted = accepted_over machine.texts.world (opening_book (opening name request c)) today
+        (opening name request c) first_day charged_days
 
     by_rows : (found : Option Refusal) → unless_refused found (of_outcome accepted) ≡ New answer after
-        → told_in key (Some after) ≡ Some (spelling (kinds.OpenAccount c), replies.Accepted answer)
+        → told_in key (Some after) ≡ Some (spelling (opening name request c), replies.Accepted answer)
     by_rows None given =
         let same_answer : accepted.0 ≡ answer = cc in
         let same_after : accepted.1 ≡ after = cc in
         rw (← same_answer, ← same_after) (ap (option_map told_answer)
-        (accepted-kept machine.texts.world (opening_book (kinds.OpenAccount c)) today (kinds.OpenAccount c)
-        key named))
+        (accepted-kept machine.texts.world (opening_book (opening name request c)) today
+        (opening name request c) key named))
     by_rows (Some refused) given = absurd (cc)
 opened-new machine today command key answer after named is = absurd (cc)
 

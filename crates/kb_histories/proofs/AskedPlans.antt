@@ -15,7 +15,7 @@ use Rattle.kb_timeline.specs.declared.entry.PlanRef.{PlanRef}
 use Rattle.kb_due.specs.Governing.{choice_in, choice_of}
 use Rattle.kb_book.specs.declared.wish.Wish.{Wish}
 use Rattle.kb_book.specs.Wishes.{plan_in, plan_asked}
-use Rattle.kb_book.specs.SubscriptionEdits.{some_plan}
+use Rattle.kb_book.specs.SubscriptionCommands.{some_plan}
 
 -- a place that a search finds has a member
 position_from-there : {A : Type 0} (test : A → Bool) (start place : ℕ) (members : List A)

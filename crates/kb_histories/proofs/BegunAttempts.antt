@@ -6,9 +6,9 @@ use Rattle.kb_payment.specs.declared.attempt.Status.TheVariants.{Unknown}
 use Rattle.kb_payment.specs.PaymentSums.{attempt_of}
 use Rattle.kb_codec.specs.declared.command.Command.{Command}
 use Rattle.kb_codec.specs.declared.command.Command.TheVariants as kinds
-use Rattle.kb_codec.specs.declared.command.OpenAccount.{OpenAccount}
+use Rattle.kb_codec.specs.declared.action.OpenAccount.{OpenAccount}
 use Rattle.kb_machine.specs.Judged.{after_judged, is_new}
-use Rattle.kb_machine.specs.Machines.{MachineValue, judged}
+use Rattle.kb_machine.specs.Machines.{MachineValue, judged, opening}
 use Rattle.kb_codec.specs.Senders.{is_text, account_of}
 use Rattle.kb_histories.specs.Attempts.{attempt_in, attempt_at, begun_key}
 use Rattle.kb_histories.specs.Begins.{AttemptsBegin, BegunKeysAreFree}
@@ -30,8 +30,9 @@ module _ (machine : MachineValue) (today : ℕ) (command : Command) (key : List 
   no-text text = let none = text-begins today command text in cc
 
   -- nor does it open its account
-  no-opening : (c : OpenAccount) → command ≡ kinds.OpenAccount c → ⊥
-  no-opening c opens = let none : begun_key today command ≡ None = ap (begun_key today) opens in cc
+  no-opening : (name request : List ℕ) (c : OpenAccount) → command ≡ opening name request c → ⊥
+  no-opening name request c opens =
+      let none : begun_key today command ≡ None = ap (begun_key today) opens in cc
 
   -- so it leaves an attempt
   begins-after : (attempt : Attempt)
@@ -44,7 +45,7 @@ module _ (machine : MachineValue) (today : ℕ) (command : Command) (key : List 
       × (attempt_at (after_judged machine comes) (account_of command) key ≡ Some attempt)
       × (attempt.status ≡ Unknown)) (λ reply again. absurd (true≢false (sym again)))
       (λ refusal refused. absurd (true≢false (sym refused))) command (λ text. absurd (no-text text))
-      (λ c opens. absurd (no-opening c opens))
+      (λ name request c opens. absurd (no-opening name request c opens))
       (λ book there none accepted.
       let found = begun-found machine.texts.world book today command key
       (own-none machine.texts.world book today command none) begins in (
@@ -65,7 +66,7 @@ module _ (machine : MachineValue) (today : ℕ) (command : Command) (key : List 
       (λ comes. is_new comes ≡ true → attempt_at machine (account_of command) key ≡ None)
       (λ reply again. absurd (true≢false (sym again)))
       (λ refusal refused. absurd (true≢false (sym refused))) command (λ text. absurd (no-text text))
-      (λ c opens. absurd (no-opening c opens))
+      (λ name request c opens. absurd (no-opening name request c opens))
       (λ book there none accepted.
       ap (attempt_in key) there
       ∙ key-free machine.texts.world book today command key (keyed.keyed (account_of command) book there) last

@@ -11,15 +11,14 @@ use Rattle.kb_sharing.specs.Keys.{by_words}
 use Rattle.kb_credit.specs.declared.line.Line.{Line}
 use Rattle.kb_credit.specs.InvoiceRows.{InvoicesValue}
 use Rattle.kb_codec.specs.declared.command.Command.{Command}
-use Rattle.kb_codec.specs.declared.command.Command.TheVariants as kinds
-use Rattle.kb_codec.specs.declared.command.OpenAccount.{OpenAccount}
+use Rattle.kb_codec.specs.declared.action.OpenAccount.{OpenAccount}
 use Rattle.kb_tree.specs.Numbers.{AreBelow}
 use Rattle.kb_book.specs.Worlds.{WorldValue}
 use Rattle.kb_tree.specs.Issues.{Issue, no_items}
 use Rattle.kb_book.specs.Books.{BookValue}
 use Rattle.kb_book.specs.Dues.{facts_of}
-use Rattle.kb_book.specs.Edits.{begun}
-use Rattle.kb_book.specs.Steps.{Outcome, key_of, keep, own_lines, accepted_over, billed_outcome, billed_with}
+use Rattle.kb_book.specs.Commands.{begun, own_lines}
+use Rattle.kb_book.specs.Steps.{Outcome, keep, accepted_over, billed_outcome, billed_with}
 use Rattle.kb_book.specs.Steps.{issue_over}
 use Rattle.kb_book.specs.BilledBooks.{AreCharged}
 use Rattle.kb_book.proofs.BegunBooks.{IsEdited, AreKept, HaveOneMore, begun-edited, subscription_count}
@@ -30,8 +29,8 @@ use Rattle.kb_book.proofs.StartedSubscriptions.{AreCharged-start, no_items-below
 use Rattle.kb_account.specs.Prepares.{opening_book}
 use Rattle.kb_codec.specs.Entries.{History}
 use Rattle.kb_machine.specs.Judged.{after_judged}
-use Rattle.kb_machine.specs.Machines.{MachineValue, no_machine, with_book}
-use Rattle.kb_codec.specs.Senders.{account_of}
+use Rattle.kb_machine.specs.Machines.{MachineValue, no_machine, with_book, opening}
+use Rattle.kb_codec.specs.Senders.{account_of, key_of}
 use Rattle.kb_machine.specs.Histories.{entry_after, replay}
 use Rattle.kb_histories.proofs.FoundEntries.{found-put}
 use Rattle.kb_histories.proofs.JudgedCases.{judged-cases, accepted_on}
@@ -129,11 +128,12 @@ was-accepted world book today command was =
     (after-was world book edited (own_lines command) today was (begun-edited world book today command))
 
 -- an account that is opened has nothing due
-was-opened : (world : WorldValue) (today : ℕ) (c : OpenAccount)
+was-opened : (world : WorldValue) (today : ℕ) (name request : List ℕ) (c : OpenAccount)
     → WasBilled
-    (accepted_over world (opening_book (kinds.OpenAccount c)) today (kinds.OpenAccount c) first_day
+    (accepted_over world (opening_book (opening name request c)) today (opening name request c) first_day
     charged_days).1
-was-opened world today c = record { world = world; days = tt; matched = refl; below = All-nil (AreBelow 1) }
+was-opened world today name request c =
+    record { world = world; days = tt; matched = refl; below = All-nil (AreBelow 1) }
 
 -- one more book
 billed-put : (machine : MachineValue) (own : List ℕ) (value : BookValue) → AreBilled machine
@@ -151,10 +151,10 @@ pub books_stay_billed : BooksStayBilled
 books_stay_billed machine today command are =
     judged-cases machine today (λ comes. AreBilled (after_judged machine comes)) (λ reply. are)
     (λ refusal. are) command (λ text reply texts. record { billed = are.billed; ordered = are.ordered })
-    (λ c opens none.
+    (λ name request c opens none.
     billed-put machine (account_of command)
-    (accepted_on machine today (kinds.OpenAccount c) (opening_book (kinds.OpenAccount c))).1 are
-    (was-opened machine.texts.world today c))
+    (accepted_on machine today (opening name request c) (opening_book (opening name request c))).1 are
+    (was-opened machine.texts.world today name request c))
     (λ book there none.
     billed-put machine (account_of command) (accepted_on machine today command book).1 are
     (was-accepted machine.texts.world book today command (are.billed (account_of command) book there)))

@@ -5,8 +5,7 @@ use Rattle.std.proofs.Math.Path.{fun_ext, subst₂}
 use Rattle.kb_days.specs.Calendar.{first_day, charged_days}
 use Rattle.kb_catalog.specs.declared.version.Version.{Version}
 use Rattle.kb_codec.specs.declared.command.Command.{Command}
-use Rattle.kb_codec.specs.declared.command.Command.TheVariants as kinds
-use Rattle.kb_codec.specs.declared.command.OpenAccount.{OpenAccount}
+use Rattle.kb_codec.specs.declared.action.OpenAccount.{OpenAccount}
 use Rattle.kb_due.specs.declared.cell.Cell.{Cell}
 use Rattle.kb_due.specs.Facts.{FactsValue}
 use Rattle.kb_due.specs.DueDays.{due_at, fee_at}
@@ -14,15 +13,15 @@ use Rattle.kb_book.specs.Worlds.{WorldValue}
 use Rattle.kb_tree.specs.Issues.{SubscriptionItems}
 use Rattle.kb_book.specs.Books.{BookValue}
 use Rattle.kb_book.specs.Dues.{facts_of}
-use Rattle.kb_book.specs.Edits.{begun}
-use Rattle.kb_book.specs.Steps.{Outcome, key_of, keep, own_lines, accepted_over, billed_outcome, issue_over}
+use Rattle.kb_book.specs.Commands.{begun, own_lines}
+use Rattle.kb_book.specs.Steps.{Outcome, keep, accepted_over, billed_outcome, issue_over}
 use Rattle.kb_book.specs.BilledBooks.{IsCharged, AreCharged, IsBilled}
 use Rattle.kb_book.proofs.BegunBooks.{begun-edited}
 use Rattle.kb_account.specs.Prepares.{opening_book}
 use Rattle.kb_codec.specs.Entries.{History}
 use Rattle.kb_machine.specs.Texts.{TextsValue}
-use Rattle.kb_machine.specs.Machines.{MachineValue, no_machine, with_book}
-use Rattle.kb_codec.specs.Senders.{account_of}
+use Rattle.kb_machine.specs.Machines.{MachineValue, no_machine, with_book, opening}
+use Rattle.kb_codec.specs.Senders.{account_of, key_of}
 use Rattle.kb_machine.specs.Histories.{entry_after, replay}
 use Rattle.kb_histories.proofs.FoundEntries.{found-put}
 use Rattle.kb_histories.specs.BilledMachines.{WasBilled, AreBilled}
@@ -89,10 +88,11 @@ billed-accepted world book today command was billed =
     })
 
 -- an account that is opened has nothing due
-pub billed-opened : (world : WorldValue) (today : ℕ) (c : OpenAccount) → IsBilled world
-    (accepted_over world (opening_book (kinds.OpenAccount c)) today (kinds.OpenAccount c) first_day
+pub billed-opened : (world : WorldValue) (today : ℕ) (name request : List ℕ) (c : OpenAccount)
+    → IsBilled world
+    (accepted_over world (opening_book (opening name request c)) today (opening name request c) first_day
     charged_days).1
-billed-opened world today c = record { days = tt; totals = refl }
+billed-opened world today name request c = record { days = tt; totals = refl }
 
 -- with one more book
 billed-put : (machine : MachineValue) (own : List ℕ) (value : BookValue) → AreBilledNow machine
@@ -114,7 +114,8 @@ books_stay_billed_now machine today command were has are =
           billed-texts machine.texts texts book more (has.held account book there)
           (are.billed account book there);
     })
-    (λ c. billed-put machine (account_of command) _ are (billed-opened machine.texts.world today c))
+    (λ name request c. billed-put machine (account_of command) _ are
+    (billed-opened machine.texts.world today name request c))
     (λ book there none.
     billed-put machine (account_of command) _ are
     (billed-accepted machine.texts.world book today command (were.billed (account_of command) book there)

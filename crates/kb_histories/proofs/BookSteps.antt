@@ -5,11 +5,13 @@ use Rattle.kb_days.specs.Calendar.{first_day, charged_days}
 use Rattle.kb_sharing.specs.Keys.{by_words}
 use Rattle.kb_codec.specs.declared.command.Command.{Command}
 use Rattle.kb_codec.specs.declared.command.Command.TheVariants as kinds
+use Rattle.kb_codec.specs.declared.action.Action.TheVariants as actions
 use Rattle.kb_codec.specs.CommandBytes.{spelling}
 use Rattle.kb_book.specs.Worlds.{WorldValue}
 use Rattle.kb_book.specs.Books.{BookValue, Kept}
-use Rattle.kb_book.specs.Edits.{begun}
-use Rattle.kb_book.specs.Steps.{Outcome, key_of, kept_of, keep, accepted_over, own_lines, billed_outcome}
+use Rattle.kb_book.specs.Commands.{begun, own_lines}
+use Rattle.kb_book.specs.Steps.{Outcome, kept_of, keep, accepted_over, billed_outcome}
+use Rattle.kb_codec.specs.Senders.{key_of}
 use Rattle.kb_book.specs.Steps.{issue_over}
 use Rattle.kb_book.proofs.RepeatedCommands.{find-put-self}
 use Rattle.kb_histories.proofs.PutEntries.{find-put-stays}
@@ -17,26 +19,8 @@ use Rattle.kb_histories.proofs.PutEntries.{find-put-stays}
 -- a command's own edit leaves what is kept
 begun-kept : (world : WorldValue) (book : BookValue) (today : ℕ) (command : Command)
     → (begun world book today command).kept ≡ book.kept
-begun-kept world book today (kinds.Catalog c) = refl
-begun-kept world book today (kinds.OverdueRules c) = refl
-begun-kept world book today (kinds.OpenAccount c) = refl
-begun-kept world book today (kinds.Create c) = refl
-begun-kept world book today (kinds.Change c) = refl
-begun-kept world book today (kinds.Cancel c) = refl
-begun-kept world book today (kinds.Uncancel c) = refl
-begun-kept world book today (kinds.Pause c) = refl
-begun-kept world book today (kinds.Resume c) = refl
-begun-kept world book today (kinds.Block c) = refl
-begun-kept world book today (kinds.Bill c) = refl
-begun-kept world book today (kinds.Charge c) = refl
-begun-kept world book today (kinds.Credit c) = refl
-begun-kept world book today (kinds.Pay c) = refl
-begun-kept world book today (kinds.Refund c) = refl
-begun-kept world book today (kinds.Chargeback c) = refl
-begun-kept world book today (kinds.Autopay c) = refl
-begun-kept world book today (kinds.Auto c) = refl
-begun-kept world book today (kinds.Settle c) = refl
-begun-kept world book today (kinds.Overdue c) = refl
+begun-kept world book today (kinds.Act account key (actions.Create c)) = refl
+begun-kept world book today command = refl
 
 -- an answer is kept under the command's key
 pub kept-keep : (command : Command) (used : Option (List ℕ)) (key : List ℕ) (outcome : Outcome)

@@ -19,11 +19,11 @@ use Rattle.kb_book.specs.Worlds.{WorldValue}
 use Rattle.kb_tree.specs.Issues.{Issue}
 use Rattle.kb_book.specs.Books.{BookValue}
 use Rattle.kb_book.specs.Dues.{facts_of}
-use Rattle.kb_book.specs.BlockRows.{has_all_states}
+use Rattle.kb_book.specs.BlockCommands.{has_all_states}
 use Rattle.kb_book.specs.PaymentRows.{balance_at}
 use Rattle.kb_book.specs.Inner.{is_after, is_transition_due, may_be_paid, invoice_due}
 use Rattle.kb_book.specs.Inner.{same_name, state_name, state_of}
-use Rattle.kb_book.specs.Edits.{begun}
+use Rattle.kb_book.specs.Commands.{begun}
 use Rattle.kb_book.specs.Steps.{accepted_over, billed_with, issue_over, with_invoice, with_paid}
 use Rattle.kb_book.specs.NextDues.{transition_of, payment_of, next_due}
 use Rattle.kb_book.proofs.BegunBooks.{IsEdited, begun-edited}

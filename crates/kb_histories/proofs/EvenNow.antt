@@ -9,13 +9,12 @@ use Rattle.kb_catalog.specs.declared.version.Version.{Version}
 use Rattle.kb_credit.specs.declared.line.Line.{Line}
 use Rattle.kb_credit.specs.InvoiceRows.{InvoicesValue, charged, credit, unpaid}
 use Rattle.kb_codec.specs.declared.command.Command.{Command}
-use Rattle.kb_codec.specs.declared.command.Command.TheVariants as kinds
 use Rattle.kb_book.specs.Worlds.{WorldValue}
 use Rattle.kb_tree.specs.Issues.{Issue}
 use Rattle.kb_book.specs.Books.{BookValue}
 use Rattle.kb_book.specs.Dues.{charged_by}
-use Rattle.kb_book.specs.Edits.{begun}
-use Rattle.kb_book.specs.Steps.{Outcome, key_of, keep, own_lines, accepted_over, billed_outcome, billed_with}
+use Rattle.kb_book.specs.Commands.{begun, own_lines}
+use Rattle.kb_book.specs.Steps.{Outcome, keep, accepted_over, billed_outcome, billed_with}
 use Rattle.kb_book.specs.Steps.{issue_over}
 use Rattle.kb_book.specs.BilledBooks.{IsBilled, IsEven, paid_in}
 use Rattle.kb_book.proofs.BegunBooks.{begun-edited}
@@ -23,8 +22,8 @@ use Rattle.kb_book.proofs.BilledRows.{credit-billed_rows, unpaid-billed_rows}
 use Rattle.kb_account.specs.Prepares.{opening_book}
 use Rattle.kb_codec.specs.Entries.{History}
 use Rattle.kb_machine.specs.Texts.{TextsValue}
-use Rattle.kb_machine.specs.Machines.{MachineValue, no_machine, with_book}
-use Rattle.kb_codec.specs.Senders.{account_of}
+use Rattle.kb_machine.specs.Machines.{MachineValue, no_machine, with_book, opening}
+use Rattle.kb_codec.specs.Senders.{account_of, key_of}
 use Rattle.kb_machine.specs.Histories.{entry_after, replay}
 use Rattle.kb_histories.proofs.FoundEntries.{found-put}
 use Rattle.kb_histories.specs.BilledMachines.{AreBilled}
@@ -129,9 +128,9 @@ books_stay_even_now machine today command were has billed are =
           even-texts machine.texts texts book more (has.held account book there)
           (are.even account book there);
     })
-    (λ c. even-put machine (account_of command) _ are
-    (even-accepted machine.texts.world (opening_book (kinds.OpenAccount c)) today (kinds.OpenAccount c)
-    (omega (arith, ints)) (billed-opened machine.texts.world today c)))
+    (λ name request c. even-put machine (account_of command) _ are
+    (even-accepted machine.texts.world (opening_book (opening name request c)) today (opening name request c)
+    (omega (arith, ints)) (billed-opened machine.texts.world today name request c)))
     (λ book there none.
     even-put machine (account_of command) _ are
     (even-accepted machine.texts.world book today command

@@ -8,16 +8,15 @@ use Rattle.kb_catalog.specs.declared.version.Version.{Version}
 use Rattle.kb_timeline.specs.declared.entry.Entry.{Entry}
 use Rattle.kb_timeline.specs.TimelineEdits.{TimelineValue}
 use Rattle.kb_codec.specs.declared.command.Command.{Command}
-use Rattle.kb_codec.specs.declared.command.Command.TheVariants as kinds
-use Rattle.kb_codec.specs.declared.command.OpenAccount.{OpenAccount}
+use Rattle.kb_codec.specs.declared.action.OpenAccount.{OpenAccount}
 use Rattle.kb_book.specs.Worlds.{WorldValue}
 use Rattle.kb_book.specs.Books.{BookValue}
-use Rattle.kb_book.specs.Edits.{begun}
-use Rattle.kb_book.specs.Steps.{Outcome, key_of, keep, own_lines, accepted_over, billed_outcome, issue_over}
+use Rattle.kb_book.specs.Commands.{begun, own_lines}
+use Rattle.kb_book.specs.Steps.{Outcome, keep, accepted_over, billed_outcome, issue_over}
 use Rattle.kb_account.specs.Prepares.{opening_book}
 use Rattle.kb_codec.specs.Entries.{History}
-use Rattle.kb_machine.specs.Machines.{MachineValue, no_machine, with_book}
-use Rattle.kb_codec.specs.Senders.{account_of}
+use Rattle.kb_machine.specs.Machines.{MachineValue, no_machine, with_book, opening}
+use Rattle.kb_codec.specs.Senders.{account_of, key_of}
 use Rattle.kb_machine.specs.Histories.{entry_after, replay}
 use Rattle.kb_histories.proofs.FoundEntries.{found-put}
 use Rattle.kb_histories.specs.HeldPlans.{HasPlanOf, HasEachOf, HasPlansOf}
@@ -54,11 +53,12 @@ accepted-held world book today command held =
     (billed_outcome edited today (issue_over world edited first_day charged_days) (own_lines command)) held
 
 -- those of one that is opened
-opened-held : (world : WorldValue) (today : ℕ) (c : OpenAccount) → HasPlansOf world.versions
-    (accepted_over world (opening_book (kinds.OpenAccount c)) today (kinds.OpenAccount c) first_day
+opened-held : (world : WorldValue) (today : ℕ) (name request : List ℕ) (c : OpenAccount)
+    → HasPlansOf world.versions
+    (accepted_over world (opening_book (opening name request c)) today (opening name request c) first_day
     charged_days).1.timeline
-opened-held world today c =
-    accepted-held world (opening_book (kinds.OpenAccount c)) today (kinds.OpenAccount c)
+opened-held world today name request c =
+    accepted-held world (opening_book (opening name request c)) today (opening name request c)
     (All-nil (HasEachOf world.versions))
 
 -- and of all with one more
@@ -79,7 +79,7 @@ versions_stay machine today command =
     judged-leaves machine today (λ after. (later : List Version)
     × (after.texts.world.versions ≡ machine.texts.world.versions ++ later))
     ([], sym (append-nil machine.texts.world.versions)) command (λ texts more. more)
-    (λ c. ([], sym (append-nil machine.texts.world.versions)))
+    (λ name request c. ([], sym (append-nil machine.texts.world.versions)))
     (λ book there none. ([], sym (append-nil machine.texts.world.versions)))
 
 -- and the catalog has all plans still
@@ -91,7 +91,8 @@ plans_stay machine today command has =
           rw more.1
           (held-later machine.texts.world.versions more.0 book.timeline (has.held account book there));
     })
-    (λ c. held-put machine (account_of command) _ has (opened-held machine.texts.world today c))
+    (λ name request c. held-put machine (account_of command) _ has
+    (opened-held machine.texts.world today name request c))
     (λ book there none.
     held-put machine (account_of command) _ has
     (accepted-held machine.texts.world book today command

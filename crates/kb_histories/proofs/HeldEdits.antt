@@ -11,8 +11,9 @@ use Rattle.kb_timeline.specs.SubscriptionEdits.{change_of, cancel_of, uncancel_o
 use Rattle.kb_timeline.specs.TimelineEdits.{TimelineValue, edited_at, subscription_named}
 use Rattle.kb_codec.specs.declared.command.Command.{Command}
 use Rattle.kb_codec.specs.declared.command.Command.TheVariants as kinds
-use Rattle.kb_codec.specs.declared.command.Create.{Create}
-use Rattle.kb_codec.specs.declared.command.Change.{Change}
+use Rattle.kb_codec.specs.declared.action.Action.TheVariants as actions
+use Rattle.kb_codec.specs.declared.action.Create.{Create}
+use Rattle.kb_codec.specs.declared.action.Change.{Change}
 use Rattle.kb_due.specs.Facts.{FactsValue, subscription_at}
 use Rattle.kb_book.specs.Wishes.{asked_day, plan_asked}
 use Rattle.kb_book.specs.Effects.{change_effect}
@@ -22,13 +23,12 @@ use Rattle.kb_book.specs.Rows.{Rows, first_refusal, limit}
 use Rattle.kb_book.specs.Worlds.{WorldValue}
 use Rattle.kb_book.specs.Books.{BookValue}
 use Rattle.kb_book.specs.Dues.{facts_of}
-use Rattle.kb_book.specs.Refusals.{own_rows, max_commands}
-use Rattle.kb_book.specs.SubscriptionRows.{create_rows, change_rows_of, change_rows_by, of_place}
-use Rattle.kb_book.specs.SubscriptionRows.{of_subscription}
-use Rattle.kb_book.specs.SubscriptionEdits.{wish_of, new_wish_of, start_entry, started, change_entry}
-use Rattle.kb_book.specs.SubscriptionEdits.{changed_at, at_place}
-use Rattle.kb_book.specs.Edits.{begun}
-use Rattle.kb_book.specs.Steps.{key_of, has_all_commands, rows_of}
+use Rattle.kb_book.specs.Commands.{own_rows, max_commands, begun}
+use Rattle.kb_book.specs.SubscriptionCommands.{create_rows, change_rows_of, change_rows_by, of_place}
+use Rattle.kb_book.specs.SubscriptionCommands.{of_subscription, wish_of, new_wish_of, start_entry, started}
+use Rattle.kb_book.specs.SubscriptionCommands.{change_entry, changed_at, at_place}
+use Rattle.kb_book.specs.Steps.{has_all_commands, rows_of}
+use Rattle.kb_codec.specs.Senders.{key_of}
 use Rattle.kb_book.proofs.AcceptedPayments.{first-none}
 use Rattle.kb_histories.specs.HeldPlans.{HasPlanOf, HasEachOf, HasPlansOf}
 use Rattle.kb_histories.proofs.AskedPlans.{some_plan-held}
@@ -123,13 +123,14 @@ module _ (world : WorldValue) (book : BookValue) (today : ℕ)
   -- each command's own edit
   own-held : (command : Command) → first_refusal (own_rows world book today command) ≡ None
       → HasPlansOf world.versions (begun world book today command).timeline
-  own-held (kinds.Create c) none = create-held c none
-  own-held (kinds.Change c) none = change-held c (subscription_named book.timeline c.subscription) none
-  own-held (kinds.Cancel c) none =
+  own-held (kinds.Act account key (actions.Create c)) none = create-held c none
+  own-held (kinds.Act account key (actions.Change c)) none =
+      change-held c (subscription_named book.timeline c.subscription) none
+  own-held (kinds.Act account key (actions.Cancel c)) none =
       held-at_place world.versions book.timeline _ (subscription_named book.timeline c.subscription) held
       (λ sub. All-edited_at (HasEachOf world.versions) sub (cancel_of _) book.timeline.subscriptions
       (λ one own. own) held)
-  own-held (kinds.Uncancel c) none =
+  own-held (kinds.Act account key (actions.Uncancel c)) none =
       held-at_place world.versions book.timeline _ (subscription_named book.timeline c.subscription) held
       (λ sub. All-edited_at (HasEachOf world.versions) sub uncancel_of book.timeline.subscriptions
       (λ one own. own) held)

@@ -1,10 +1,11 @@
 -- What a command may come to on a machine, and what it leaves then.
-use Rattle.std.proofs.Common.{◌≡◌, ℕ, Bool, true, false, Option, Some, None, cond, bytes_eq}
+use Rattle.std.proofs.Common.{◌≡◌, ℕ, Bool, true, false, Option, Some, None, cond, bytes_eq, List}
 use Rattle.std.proofs.Common.{Result, Ok, Err, refl, sym, true≢false}
 use Rattle.kb_days.specs.Calendar.{first_day, charged_days}
 use Rattle.kb_codec.specs.declared.command.Command.{Command}
 use Rattle.kb_codec.specs.declared.command.Command.TheVariants as kinds
-use Rattle.kb_codec.specs.declared.command.OpenAccount.{OpenAccount}
+use Rattle.kb_codec.specs.declared.action.Action.TheVariants as actions
+use Rattle.kb_codec.specs.declared.action.OpenAccount.{OpenAccount}
 use Rattle.kb_codec.specs.CommandBytes.{spelling}
 use Rattle.kb_book.specs.declared.answer.Answer.{Answer}
 use Rattle.kb_book.specs.declared.refusal.Refusal.{Refusal}
@@ -12,15 +13,16 @@ use Rattle.kb_book.specs.declared.refusal.Refusal.TheVariants as refusal
 use Rattle.kb_book.specs.Worlds.{WorldValue}
 use Rattle.kb_book.specs.Books.{BookValue, Kept}
 use Rattle.kb_book.specs.Rows.{first_refusal}
-use Rattle.kb_book.specs.Steps.{Outcome, key_of, kept_of, accepted_over, rows_of, step}
+use Rattle.kb_book.specs.Steps.{Outcome, kept_of, accepted_over, rows_of, step}
 use Rattle.kb_account.specs.Prepares.{opening_book}
 use Rattle.kb_book.specs.declared.reply.LaneReply.{LaneReply}
 use Rattle.kb_book.specs.declared.reply.LaneReply.TheVariants as replies
 use Rattle.kb_machine.specs.Judged.{Judged, New, Again, Refused, unless_refused, lifted, is_new}
 use Rattle.kb_machine.specs.Texts.{TextsValue, catalog_judged, overdue_judged}
 use Rattle.kb_machine.specs.Machines.{MachineValue, book_of, with_book, with_texts, by_book, absent_judged}
+use Rattle.kb_machine.specs.Machines.{opening}
 use Rattle.kb_machine.specs.Machines.{book_judged, opening_rows, of_step, of_outcome, judged, account_judged}
-use Rattle.kb_codec.specs.Senders.{account_of, is_text}
+use Rattle.kb_codec.specs.Senders.{account_of, is_text, key_of}
 
 -- on a book it comes again, or is refused, or is accepted
 module _ (world : WorldValue) (book : BookValue) (today : ℕ) (command : Command) where
@@ -74,14 +76,15 @@ module _ (machine : MachineValue) (today : ℕ) where
   -- where there is no account it is refused, or opens it
   absent-cases : (command : Command) (Q : Judged Answer BookValue → Type 0)
       → ((refused : Refusal) → Q (Refused refused))
-      → ((c : OpenAccount) → command ≡ kinds.OpenAccount c
-      → Q (of_outcome (accepted_on (kinds.OpenAccount c) (opening_book (kinds.OpenAccount c)))))
+      → ((name request : List ℕ) (c : OpenAccount) → command ≡ opening name request c
+      → Q (of_outcome (accepted_on (opening name request c) (opening_book (opening name request c)))))
       → Q (absent_judged machine today command)
-  absent-cases (kinds.OpenAccount c) Q refused opened = by_rows (first_refusal (opening_rows machine))
+  absent-cases (kinds.Act name request (actions.OpenAccount c)) Q refused opened =
+      by_rows (first_refusal (opening_rows machine))
     where
       by_rows : (found : Option Refusal) → Q (unless_refused found
-          (of_outcome (accepted_on (kinds.OpenAccount c) (opening_book (kinds.OpenAccount c)))))
-      by_rows None = opened c refl
+          (of_outcome (accepted_on (opening name request c) (opening_book (opening name request c)))))
+      by_rows None = opened name request c refl
       by_rows (Some refusal) = refused refusal
   absent-cases command Q refused opened = refused refusal.NoAccount
 
@@ -97,8 +100,9 @@ module _ (machine : MachineValue) (today : ℕ) where
 
     -- what a command on an account may come to
     account-cases : (command : Command)
-        → ((c : OpenAccount) → command ≡ kinds.OpenAccount c → book_of machine (account_of command) ≡ None
-        → P (comes_to command (accepted_on (kinds.OpenAccount c) (opening_book (kinds.OpenAccount c)))))
+        → ((name request : List ℕ) (c : OpenAccount) → command ≡ opening name request c
+        → book_of machine (account_of command) ≡ None
+        → P (comes_to command (accepted_on (opening name request c) (opening_book (opening name request c)))))
         → ((book : BookValue) → book_of machine (account_of command) ≡ Some book
         → first_refusal (rows_of machine.texts.world book today command) ≡ None
         → P (comes_to command (accepted_on command book)))
@@ -110,7 +114,8 @@ module _ (machine : MachineValue) (today : ℕ) where
 
         by_found : (found : Option BookValue) → book_of machine (account_of command) ≡ found
             → Q (by_book machine today command found)
-        by_found None none = absent-cases command Q refused (λ c is. opened c is none)
+        by_found None none =
+            absent-cases command Q refused (λ name request c is. opened name request c is none)
         by_found (Some book) there =
             book-cases machine.texts.world book today command Q (λ answer. again (replies.Accepted answer))
             refused (taken book there)
@@ -120,8 +125,9 @@ module _ (machine : MachineValue) (today : ℕ) where
     pub judged-cases : (command : Command)
         → (is_text command ≡ true → (reply : LaneReply) (texts : TextsValue)
         → P (New reply (with_texts machine texts)))
-        → ((c : OpenAccount) → command ≡ kinds.OpenAccount c → book_of machine (account_of command) ≡ None
-        → P (comes_to command (accepted_on (kinds.OpenAccount c) (opening_book (kinds.OpenAccount c)))))
+        → ((name request : List ℕ) (c : OpenAccount) → command ≡ opening name request c
+        → book_of machine (account_of command) ≡ None
+        → P (comes_to command (accepted_on (opening name request c) (opening_book (opening name request c)))))
         → ((book : BookValue) → book_of machine (account_of command) ≡ Some book
         → first_refusal (rows_of machine.texts.world book today command) ≡ None
         → P (comes_to command (accepted_on command book)))

@@ -10,7 +10,8 @@ use Rattle.kb_book.specs.declared.refusal.Refusal.TheVariants as refusal
 use Rattle.kb_book.specs.Worlds.{WorldValue}
 use Rattle.kb_book.specs.Books.{BookValue, Kept}
 use Rattle.kb_book.specs.Rows.{first_refusal}
-use Rattle.kb_book.specs.Steps.{Outcome, key_of, kept_of, accepted_over, rows_of, step}
+use Rattle.kb_book.specs.Steps.{Outcome, kept_of, accepted_over, rows_of, step}
+use Rattle.kb_codec.specs.Senders.{key_of}
 use Rattle.kb_machine.specs.Judged.{Judged, New, Again, Refused}
 use Rattle.kb_machine.specs.Machines.{of_step, book_judged}
 

@@ -7,7 +7,7 @@ use Rattle.kb_sharing.specs.Keys.{by_words}
 use Rattle.kb_catalog.specs.declared.version.Version.{Version}
 use Rattle.kb_codec.specs.declared.command.Command.{Command}
 use Rattle.kb_codec.specs.declared.command.Command.TheVariants as kinds
-use Rattle.kb_codec.specs.declared.command.OpenAccount.{OpenAccount}
+use Rattle.kb_codec.specs.declared.action.OpenAccount.{OpenAccount}
 use Rattle.kb_book.specs.declared.refusal.Refusal.{Refusal}
 use Rattle.kb_book.specs.declared.refusal.Refusal.TheVariants.{KeyReused}
 use Rattle.kb_book.specs.Books.{BookValue}
@@ -18,7 +18,7 @@ use Rattle.kb_book.specs.declared.reply.LaneReply.{LaneReply}
 use Rattle.kb_book.specs.declared.reply.LaneReply.TheVariants as replies
 use Rattle.kb_machine.specs.Judged.{New, Again, Refused, unless_refused, lifted, after_judged}
 use Rattle.kb_machine.specs.Texts.{KeptText, TextsValue, by_key, catalog_rows, with_catalog, with_overdue}
-use Rattle.kb_machine.specs.Machines.{MachineValue, book_of, with_book, with_texts, judged}
+use Rattle.kb_machine.specs.Machines.{MachineValue, book_of, with_book, with_texts, judged, opening}
 use Rattle.kb_codec.specs.Senders.{account_of}
 use Rattle.kb_histories.proofs.JudgedCases.{judged-cases, accepted_on}
 
@@ -44,8 +44,8 @@ module _ (machine : MachineValue) (today : ℕ) (P : MachineValue → Type 0) (b
   -- what holds before a command, with later versions, and with the book that it leaves, holds after it
   pub judged-leaves : (command : Command)
       → ((texts : TextsValue) → HaveLater machine.texts texts → P (with_texts machine texts))
-      → ((c : OpenAccount) → P (with_book machine (account_of command)
-      (accepted_on machine today (kinds.OpenAccount c) (opening_book (kinds.OpenAccount c))).1))
+      → ((name request : List ℕ) (c : OpenAccount) → P (with_book machine (account_of command)
+      (accepted_on machine today (opening name request c) (opening_book (opening name request c))).1))
       → ((book : BookValue) → book_of machine (account_of command) ≡ Some book
       → first_refusal (rows_of machine.texts.world book today command) ≡ None
       → P (with_book machine (account_of command) (accepted_on machine today command book).1))
@@ -62,4 +62,5 @@ module _ (machine : MachineValue) (today : ℕ) (P : MachineValue → Type 0) (b
       (texts (with_overdue machine.texts c) ([], sym (append-nil machine.texts.world.versions)))
   judged-leaves command texts opened taken =
       judged-cases machine today (λ comes. P (after_judged machine comes)) (λ reply. before)
-      (λ refusal. before) command (λ text. absurd (true≢false (sym text))) (λ c opens none. opened c) taken
+      (λ refusal. before) command (λ text. absurd (true≢false (sym text)))
+      (λ name request c opens none. opened name request c) taken

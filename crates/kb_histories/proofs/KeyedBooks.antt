@@ -8,14 +8,12 @@ use Rattle.kb_credit.specs.declared.line.Line.{Line}
 use Rattle.kb_credit.specs.InvoiceRows.{InvoicesValue}
 use Rattle.kb_payment.specs.declared.attempt.Attempt.{Attempt}
 use Rattle.kb_codec.specs.declared.command.Command.{Command}
-use Rattle.kb_codec.specs.declared.command.Command.TheVariants as kinds
-use Rattle.kb_codec.specs.declared.command.OpenAccount.{OpenAccount}
+use Rattle.kb_codec.specs.declared.action.OpenAccount.{OpenAccount}
 use Rattle.kb_book.specs.Worlds.{WorldValue}
 use Rattle.kb_book.specs.Books.{BookValue}
-use Rattle.kb_book.specs.Edits.{begun}
+use Rattle.kb_book.specs.Commands.{begun, own_rows, own_lines}
 use Rattle.kb_book.specs.Rows.{first_refusal}
-use Rattle.kb_book.specs.Refusals.{own_rows}
-use Rattle.kb_book.specs.Steps.{Outcome, key_of, keep, own_lines, accepted_over, billed_outcome, issue_over}
+use Rattle.kb_book.specs.Steps.{Outcome, keep, accepted_over, billed_outcome, issue_over}
 use Rattle.kb_book.specs.OwnKeys.{IsOwned}
 use Rattle.kb_book.proofs.AcceptedPayments.{AreSound, payments-sound}
 use Rattle.kb_book.proofs.BegunBooks.{begun-edited}
@@ -25,8 +23,8 @@ use Rattle.kb_book.proofs.KeptTotals.{billed_rows-few}
 use Rattle.kb_account.specs.Prepares.{opening_book}
 use Rattle.kb_codec.specs.Entries.{History}
 use Rattle.kb_machine.specs.Judged.{after_judged}
-use Rattle.kb_machine.specs.Machines.{MachineValue, no_machine, book_of, with_book, judged}
-use Rattle.kb_codec.specs.Senders.{account_of}
+use Rattle.kb_machine.specs.Machines.{MachineValue, no_machine, book_of, with_book, judged, opening}
+use Rattle.kb_codec.specs.Senders.{account_of, key_of}
 use Rattle.kb_machine.specs.Histories.{entry_after, replay}
 use Rattle.kb_histories.specs.PaymentKeys.{ReplaysAreKeyed}
 use Rattle.kb_histories.proofs.FoundEntries.{found-put}
@@ -73,11 +71,11 @@ keyed-accepted world book today command count keyed none =
     })
 
 -- an account that is opened has no attempt
-keyed-opened : (world : WorldValue) (today : ℕ) (c : OpenAccount) (count : ℕ)
+keyed-opened : (world : WorldValue) (today : ℕ) (name request : List ℕ) (c : OpenAccount) (count : ℕ)
     → IsKeyedBelow (count + 1)
-    (accepted_over world (opening_book (kinds.OpenAccount c)) today (kinds.OpenAccount c) first_day
+    (accepted_over world (opening_book (opening name request c)) today (opening name request c) first_day
     charged_days).1
-keyed-opened world today c count = record {
+keyed-opened world today name request c count = record {
   owned = All-nil (λ (entry : List ℕ × Attempt). IsOwned entry.0 entry.1);
   invoiced = All-nil (λ (entry : List ℕ × Attempt). entry.1.invoice ≤ 0);
   low = omega arith;
@@ -107,10 +105,10 @@ keyed-judged machine today command count keyed =
     let more : AreKeyedBelow (count + 1) machine = keyed-more count machine keyed in
     judged-cases machine today (λ comes. AreKeyedBelow (count + 1) (after_judged machine comes))
     (λ reply. more) (λ refusal. more) command (λ text reply texts. more)
-    (λ c opens none.
+    (λ name request c opens none.
     keyed-put (count + 1) machine (account_of command)
-    (accepted_on machine today (kinds.OpenAccount c) (opening_book (kinds.OpenAccount c))).1 more
-    (keyed-opened machine.texts.world today c count))
+    (accepted_on machine today (opening name request c) (opening_book (opening name request c))).1 more
+    (keyed-opened machine.texts.world today name request c count))
     (λ book there none.
     keyed-put (count + 1) machine (account_of command) (accepted_on machine today command book).1 more
     (keyed-accepted machine.texts.world book today command count (keyed (account_of command) book there)

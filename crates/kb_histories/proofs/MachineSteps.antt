@@ -10,7 +10,7 @@ use Rattle.kb_codec.specs.declared.command.Command.TheVariants as kinds
 use Rattle.kb_codec.specs.CommandBytes.{spelling}
 use Rattle.kb_book.specs.declared.refusal.Refusal.TheVariants as refusal
 use Rattle.kb_book.specs.Rows.{first_refusal}
-use Rattle.kb_book.specs.Steps.{key_of}
+use Rattle.kb_codec.specs.Senders.{key_of}
 use Rattle.kb_book.specs.declared.reply.LaneReply.{LaneReply}
 use Rattle.kb_book.specs.declared.reply.LaneReply.TheVariants as replies
 use Rattle.kb_book.proofs.RepeatedCommands.{bytes_eq-self, find-put-self}

@@ -1,12 +1,11 @@
 -- Books stay found under the names of their accounts.
 use Rattle.std.proofs.Common.{◌≡◌, ℕ, List, [], ◌∷◌, Some, sym, ap, ◌∙◌}
 use Rattle.std.specs.List.{fold}
-use Rattle.kb_codec.specs.declared.command.Command.TheVariants as kinds
 use Rattle.kb_book.specs.Books.{BookValue}
 use Rattle.kb_account.specs.Prepares.{opening_book}
 use Rattle.kb_codec.specs.Entries.{History}
 use Rattle.kb_machine.specs.Judged.{after_judged}
-use Rattle.kb_machine.specs.Machines.{MachineValue, no_machine, with_book}
+use Rattle.kb_machine.specs.Machines.{MachineValue, no_machine, with_book, opening}
 use Rattle.kb_codec.specs.Senders.{account_of}
 use Rattle.kb_machine.specs.Histories.{entry_after, replay}
 use Rattle.kb_histories.specs.Names.{AreNamed, NamesStay, ReplaysAreNamed}
@@ -30,10 +29,11 @@ pub names_stay : NamesStay
 names_stay machine today command are =
     judged-cases machine today (λ comes. AreNamed (after_judged machine comes)) (λ reply. are)
     (λ refusal. are) command (λ text reply texts. record { named = are.named })
-    (λ c opens none.
+    (λ name request c opens none.
     named-put machine (account_of command)
-    (accepted_on machine today (kinds.OpenAccount c) (opening_book (kinds.OpenAccount c))).1 are
-    (accepted-account machine.texts.world (opening_book (kinds.OpenAccount c)) today (kinds.OpenAccount c)
+    (accepted_on machine today (opening name request c) (opening_book (opening name request c))).1 are
+    (accepted-account machine.texts.world (opening_book (opening name request c)) today
+    (opening name request c)
     ∙ sym (ap account_of opens)))
     (λ book there none.
     named-put machine (account_of command) (accepted_on machine today command book).1 are

@@ -9,6 +9,7 @@ use Rattle.kb_sharing.specs.Keys.{by_words}
 use Rattle.kb_days.specs.Calendar.{first_day, charged_days}
 use Rattle.kb_codec.specs.declared.command.Command.{Command}
 use Rattle.kb_codec.specs.declared.command.Command.TheVariants as kinds
+use Rattle.kb_codec.specs.declared.action.Action.TheVariants as actions
 use Rattle.kb_book.specs.declared.answer.Answer.{Answer}
 use Rattle.kb_book.specs.Books.{BookValue, Keyed}
 use Rattle.kb_book.specs.Rows.{first_refusal, limit}
@@ -18,7 +19,7 @@ use Rattle.kb_book.specs.declared.reply.LaneReply.{LaneReply}
 use Rattle.kb_book.specs.declared.reply.LaneReply.TheVariants as replies
 use Rattle.kb_machine.specs.Judged.{Judged, New, Again, Refused, unless_refused, lifted, after_judged}
 use Rattle.kb_machine.specs.Texts.{TextsValue}
-use Rattle.kb_machine.specs.Machines.{MachineValue, book_of, with_book, with_texts, by_book}
+use Rattle.kb_machine.specs.Machines.{MachineValue, book_of, with_book, with_texts, by_book, opening}
 use Rattle.kb_machine.specs.Machines.{absent_judged, account_judged, book_judged, max_accounts, of_outcome}
 use Rattle.kb_codec.specs.Senders.{account_of}
 use Rattle.kb_histories.proofs.AccountSteps.{other-stays}
@@ -83,27 +84,27 @@ module _ (machine : MachineValue) (today : ℕ) (command : Command) where
       → (absent_judged machine today other ≡ Refused (limit 1 max_accounts))
       ⊎ (absent_judged (record machine { books = alone own found }) today other
       ≡ absent_judged machine today other)
-  absent-same found (kinds.OpenAccount c) =
+  absent-same found (kinds.Act name request (actions.OpenAccount c)) =
       by_full (nat_le max_accounts (length machine.books)) refl
     where
       accepted : Outcome
-      accepted = accepted_over machine.texts.world (opening_book (kinds.OpenAccount c)) today
-          (kinds.OpenAccount c) first_day charged_days
+      accepted = accepted_over machine.texts.world (opening_book (opening name request c)) today
+          (opening name request c) first_day charged_days
 
       opened : Bool → Judged Answer BookValue
       opened full = unless_refused (first_refusal ((full, limit 1 max_accounts) ∷ [])) (of_outcome accepted)
 
       by_found : (found : Option BookValue)
-          → of_outcome accepted ≡ absent_judged machine today (kinds.OpenAccount c)
-          → absent_judged (record machine { books = alone own found }) today (kinds.OpenAccount c)
-          ≡ absent_judged machine today (kinds.OpenAccount c)
+          → of_outcome accepted ≡ absent_judged machine today (opening name request c)
+          → absent_judged (record machine { books = alone own found }) today (opening name request c)
+          ≡ absent_judged machine today (opening name request c)
       by_found None room = room
       by_found (Some book) room = room
 
       by_full : (full : Bool) → nat_le max_accounts (length machine.books) ≡ full
-          → (absent_judged machine today (kinds.OpenAccount c) ≡ Refused (limit 1 max_accounts))
-          ⊎ (absent_judged (record machine { books = alone own found }) today (kinds.OpenAccount c)
-          ≡ absent_judged machine today (kinds.OpenAccount c))
+          → (absent_judged machine today (opening name request c) ≡ Refused (limit 1 max_accounts))
+          ⊎ (absent_judged (record machine { books = alone own found }) today (opening name request c)
+          ≡ absent_judged machine today (opening name request c))
       by_full true is = inl (ap opened is)
       by_full false is = inr (by_found found (sym (ap opened is)))
   absent-same found other = inr refl

@@ -6,12 +6,11 @@ use Rattle.std.proofs.lemmas.List.Sums.{fold-append}
 use Rattle.kb_codec.specs.declared.command.Command.{Command}
 use Rattle.kb_codec.specs.declared.command.Command.TheVariants as kinds
 use Rattle.kb_codec.specs.CommandBytes.{spelling}
-use Rattle.kb_book.specs.Steps.{key_of}
 use Rattle.kb_codec.specs.Entries.{Entry, History}
 use Rattle.kb_book.specs.declared.reply.LaneReply.{LaneReply}
 use Rattle.kb_machine.specs.Judged.{Judged, New, Again, Refused, after_judged, is_new}
 use Rattle.kb_machine.specs.Machines.{MachineValue, no_machine, judged}
-use Rattle.kb_codec.specs.Senders.{is_callers}
+use Rattle.kb_codec.specs.Senders.{is_callers, key_of}
 use Rattle.kb_machine.specs.Histories.{entry_after, replay, IsNewOn, AreNewFrom}
 use Rattle.kb_histories.specs.RequestKeys.{Scope, scope_of}
 use Rattle.kb_histories.specs.Repeats.{RepeatsActOnce, KeysStandOnce}
@@ -23,21 +22,7 @@ callers-key : (command : Command) → is_callers command ≡ true
     → (key : List ℕ) × (key_of command ≡ Some key)
 callers-key (kinds.Catalog c) is = (c.key, refl)
 callers-key (kinds.OverdueRules c) is = (c.key, refl)
-callers-key (kinds.OpenAccount c) is = (c.key, refl)
-callers-key (kinds.Create c) is = (c.key, refl)
-callers-key (kinds.Change c) is = (c.key, refl)
-callers-key (kinds.Cancel c) is = (c.key, refl)
-callers-key (kinds.Uncancel c) is = (c.key, refl)
-callers-key (kinds.Pause c) is = (c.key, refl)
-callers-key (kinds.Resume c) is = (c.key, refl)
-callers-key (kinds.Block c) is = (c.key, refl)
-callers-key (kinds.Bill c) is = (c.key, refl)
-callers-key (kinds.Charge c) is = (c.key, refl)
-callers-key (kinds.Credit c) is = (c.key, refl)
-callers-key (kinds.Pay c) is = (c.key, refl)
-callers-key (kinds.Refund c) is = (c.key, refl)
-callers-key (kinds.Chargeback c) is = (c.key, refl)
-callers-key (kinds.Autopay c) is = (c.key, refl)
+callers-key (kinds.Act account key action) is = (key, refl)
 callers-key (kinds.Auto c) is = absurd (true≢false (sym is))
 callers-key (kinds.Settle c) is = absurd (true≢false (sym is))
 callers-key (kinds.Overdue c) is = absurd (true≢false (sym is))

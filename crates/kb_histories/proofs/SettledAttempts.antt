@@ -46,7 +46,7 @@ settlements_settle machine today account key status attempt is new =
     (λ comes. is_new comes ≡ true
     → attempt_at (after_judged machine comes) account key ≡ Some (with_status attempt status))
     (λ reply again. absurd (true≢false (sym again))) (λ refusal refused. absurd (true≢false (sym refused)))
-    settlement (λ text. absurd (true≢false (sym text))) (λ c opens. absurd (cc))
+    settlement (λ text. absurd (true≢false (sym text))) (λ name request c opens. absurd (cc))
     (λ book there none accepted.
     ap (attempt_in key) (find-put-self account (accepted_on machine today settlement book).1 machine.books)
     ∙ ap (λ payments. attempt_of payments key)
@@ -82,7 +82,7 @@ settlements_leave_others machine today c account key free =
     judged-cases machine today
     (λ comes. attempt_at (after_judged machine comes) account key ≡ attempt_at machine account key)
     (λ reply. refl) (λ refusal. refl) (kinds.Settle c) (λ text. absurd (true≢false (sym text)))
-    (λ opened opens. absurd (cc))
+    (λ name request c opens. absurd (cc))
     (λ book there none.
     found-put account c.account (accepted_on machine today (kinds.Settle c) book).1 machine.books
     (λ found. attempt_in key found ≡ attempt_at machine account key) (λ other. refl)

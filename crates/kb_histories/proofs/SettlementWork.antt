@@ -13,7 +13,7 @@ settlements_add_no_work machine today named c are =
     judged-cases machine today
     (λ comes. all_work named today (after_judged machine comes) ≤ all_work named today machine)
     (λ reply. omega arith) (λ refusal. omega arith) (kinds.Settle c)
-    (λ text. absurd (true≢false (sym text))) (λ d opens. absurd (cc))
+    (λ text. absurd (true≢false (sym text))) (λ name request d opens. absurd (cc))
     (λ book there none.
     work-kept machine today named c.account book (accepted_on machine today (kinds.Settle c) book).1 are there
     (settle-work machine.texts.world book today (are.billed c.account book there) c))

@@ -12,7 +12,7 @@ use Rattle.kb_book.specs.Books.{BookValue}
 use Rattle.kb_account.specs.Prepares.{opening_book}
 use Rattle.kb_book.proofs.RepeatedCommands.{bytes_eq-self}
 use Rattle.kb_machine.specs.Judged.{after_judged}
-use Rattle.kb_machine.specs.Machines.{MachineValue, book_of, judged}
+use Rattle.kb_machine.specs.Machines.{MachineValue, book_of, judged, opening}
 use Rattle.kb_codec.specs.Senders.{account_of}
 use Rattle.kb_histories.specs.Attempts.{attempt_in, attempt_at, settles}
 use Rattle.kb_histories.specs.PaymentKeys.{AreKeyed}
@@ -32,9 +32,10 @@ module _ (machine : MachineValue) (today : ℕ) (command : Command) (account key
       judged-cases machine today
       (λ comes. attempt_at (after_judged machine comes) account key ≡ Some attempt) (λ reply. is)
       (λ refusal. is) command (λ text reply texts. is)
-      (λ c opens none.
+      (λ name request c opens none.
       found-put account (account_of command)
-      (accepted_on machine today (kinds.OpenAccount c) (opening_book (kinds.OpenAccount c))).1 machine.books
+      (accepted_on machine today (opening name request c) (opening_book (opening name request c))).1
+      machine.books
       (λ found. attempt_in key found ≡ Some attempt) (λ other. is) (λ same. absurd (gone same none)))
       (λ book there none.
       found-put account (account_of command) (accepted_on machine today command book).1 machine.books

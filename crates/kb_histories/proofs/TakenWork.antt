@@ -31,7 +31,7 @@ taken-after machine today named book command are there is no_text new less =
     (λ comes. is_new comes ≡ true
     → all_work named today (after_judged machine comes) + work_left command ≤ all_work named today machine)
     (λ reply again. absurd (true≢false (sym again))) (λ refusal refused. absurd (true≢false (sym refused)))
-    command (λ text. absurd (true≢false (sym text ∙ no_text))) (λ c opens none. absurd (cc))
+    command (λ text. absurd (true≢false (sym text ∙ no_text))) (λ name request c opens none. absurd (cc))
     (λ other here none accepted.
     let same : book ≡ other = cc in
     work-taken machine today named (account_of command) other (accepted_on machine today command other).1 are

@@ -7,6 +7,7 @@ use Rattle.kb_payment.specs.declared.attempt.Status.TheVariants.{Success}
 use Rattle.kb_payment.specs.PaymentSums.{attempt_of}
 use Rattle.kb_codec.specs.declared.command.Command.{Command}
 use Rattle.kb_codec.specs.declared.command.Command.TheVariants as kinds
+use Rattle.kb_codec.specs.declared.action.Action.TheVariants as actions
 use Rattle.kb_book.specs.Books.{BookValue}
 use Rattle.kb_book.specs.Edits.{auto_key}
 use Rattle.kb_machine.specs.Machines.{MachineValue, book_of}
@@ -26,8 +27,8 @@ none_at_first = refl
 
 -- the payment key under which a command of a day begins an attempt that the gateway is to be asked for
 abbrev pub begun_key : ℕ → Command → Option (List ℕ)
-begun_key today (kinds.Pay c) = Some c.payment
-begun_key today (kinds.Refund c) = Some c.payment
+begun_key today (kinds.Act account key (actions.Pay c)) = Some c.payment
+begun_key today (kinds.Act account key (actions.Refund c)) = Some c.payment
 begun_key today (kinds.Auto c) = Some (auto_key c.invoice today)
 begun_key today _ = None
 

@@ -5,6 +5,7 @@ use Rattle.kb_credit.specs.InvoiceRows.{credit}
 use Rattle.kb_payment.specs.declared.attempt.Status.TheVariants.{Success}
 use Rattle.kb_codec.specs.declared.command.Command.{Command}
 use Rattle.kb_codec.specs.declared.command.Command.TheVariants as kinds
+use Rattle.kb_codec.specs.declared.action.Action.TheVariants as actions
 use Rattle.kb_book.specs.Books.{BookValue}
 use Rattle.kb_book.specs.Dues.{charged_by}
 use Rattle.kb_book.specs.Steps.{step}
@@ -36,28 +37,24 @@ ReplaysAreEvenNow = (history : History) → AreEvenNow (replay history)
 
 -- a1 is opened, charged 1000, pays that, and is credited 400 of it later
 abbrev opened : Command
-opened = kinds.OpenAccount (record {
-  account = codes "a1";
-  key = codes "k1";
+opened = kinds.Act (codes "a1") (codes "k1") (actions.OpenAccount (record {
   currency = codes "USD";
   bcd = 1;
   autopay = false;
-})
+}))
 
 abbrev charge : Command
-charge = kinds.Charge (record { account = codes "a1"; key = codes "k2"; amount = 1000 })
+charge = kinds.Act (codes "a1") (codes "k2") (actions.Charge (record { amount = 1000 }))
 
 abbrev pay : Command
-pay = kinds.Pay (record {
-  account = codes "a1";
-  key = codes "k3";
+pay = kinds.Act (codes "a1") (codes "k3") (actions.Pay (record {
   payment = codes "p1";
   invoice = 1;
   amount = None;
-})
+}))
 
 abbrev give_back : Command
-give_back = kinds.Credit (record { account = codes "a1"; key = codes "k4"; amount = 400 })
+give_back = kinds.Act (codes "a1") (codes "k4") (actions.Credit (record { amount = 400 }))
 
 abbrev credited_late : History
 credited_late = (march 1, opened) ∷ (march 1, charge) ∷ (march 2, pay) ∷ (march 2, settle_p1 Success)

@@ -10,6 +10,7 @@ use Rattle.kb_credit.specs.declared.line.Line.{Line}
 use Rattle.kb_payment.specs.PaymentSums.{PaymentsValue, has_automatic_since}
 use Rattle.kb_codec.specs.declared.command.Command.{Command}
 use Rattle.kb_codec.specs.declared.command.Command.TheVariants as kinds
+use Rattle.kb_codec.specs.declared.action.Action.TheVariants as actions
 use Rattle.kb_book.specs.Worlds.{WorldValue}
 use Rattle.kb_book.specs.Books.{BookValue}
 use Rattle.kb_book.specs.Inner.{is_after}
@@ -22,8 +23,8 @@ use Rattle.kb_histories.specs.SmallMachines.{owing_book, machine_with}
 abbrev pub work_left : Command → ℕ
 work_left (kinds.Catalog c) = 0
 work_left (kinds.OverdueRules c) = 0
-work_left (kinds.Pay c) = 3
-work_left (kinds.Refund c) = 3
+work_left (kinds.Act account key (actions.Pay c)) = 3
+work_left (kinds.Act account key (actions.Refund c)) = 3
 work_left (kinds.Auto c) = 3
 work_left command = 1
 

@@ -2,7 +2,8 @@
 use Rattle.std.specs.Prelude.{ℕ, ◌≡◌, List, None, codes, refl}
 use Rattle.kb_codec.specs.declared.command.Command.{Command}
 use Rattle.kb_codec.specs.declared.command.Command.TheVariants as kinds
-use Rattle.kb_book.specs.Steps.{key_of}
+use Rattle.kb_codec.specs.declared.action.Action.TheVariants as actions
+use Rattle.kb_codec.specs.Senders.{key_of}
 use Rattle.kb_codec.specs.Senders.{account_of}
 use Rattle.kb_histories.specs.Openings.{opening_of}
 
@@ -27,5 +28,5 @@ abbrev pub HaveOneKey : Command → Command → Type 0
 HaveOneKey first second = (scope_of first ≡ scope_of second) × (key_of first ≡ key_of second)
 
 as_a_bill : HaveOneKey (opening_of (codes "a1")).1
-    (kinds.Bill (record { account = codes "a1"; key = codes "k1"; day = None }))
+    (kinds.Act (codes "a1") (codes "k1") (actions.Bill (record { day = None })))
 as_a_bill = (refl, refl)

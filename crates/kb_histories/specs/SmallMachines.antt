@@ -6,6 +6,7 @@ use Rattle.kb_payment.specs.declared.attempt.Status.{Status}
 use Rattle.kb_payment.specs.PaymentEdits.{purchase_of}
 use Rattle.kb_codec.specs.declared.command.Command.{Command}
 use Rattle.kb_codec.specs.declared.command.Command.TheVariants as kinds
+use Rattle.kb_codec.specs.declared.action.Action.TheVariants as actions
 use Rattle.kb_book.specs.Books.{BookValue, new_book}
 use Rattle.kb_machine.specs.Texts.{no_texts}
 use Rattle.kb_machine.specs.Machines.{MachineValue}
@@ -27,13 +28,11 @@ owing = machine_with (owing_book false)
 
 -- it is to be paid by the payment p1
 abbrev pub pay_p1 : Command
-pay_p1 = kinds.Pay (record {
-  account = codes "a1";
-  key = codes "k1";
+pay_p1 = kinds.Act (codes "a1") (codes "k1") (actions.Pay (record {
   payment = codes "p1";
   invoice = 1;
   amount = None;
-})
+}))
 
 -- the attempt at that
 abbrev pub p1_begun : Attempt

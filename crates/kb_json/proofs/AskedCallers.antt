@@ -61,27 +61,13 @@ asked-callers kinds.Catalog object = catalog-callers (name_at object member.Key)
 asked-callers kinds.OverdueRules object = overdue-callers (name_at object member.Key)
     (text_at object member.Text)
     (overdue_read (text_at object member.Text))
-asked-callers kinds.OpenAccount object = command-callers _ refl
-asked-callers kinds.Create object = command-callers _ refl
-asked-callers kinds.Change object = command-callers _ refl
-asked-callers kinds.Cancel object = command-callers _ refl
-asked-callers kinds.Uncancel object = command-callers _ refl
-asked-callers kinds.Pause object = command-callers _ refl
-asked-callers kinds.Resume object = command-callers _ refl
-asked-callers kinds.Block object = command-callers _ refl
-asked-callers kinds.Bill object = command-callers _ refl
-asked-callers kinds.Charge object = command-callers _ refl
-asked-callers kinds.Credit object = command-callers _ refl
-asked-callers kinds.Pay object = command-callers _ refl
-asked-callers kinds.Refund object = command-callers _ refl
-asked-callers kinds.Chargeback object = command-callers _ refl
-asked-callers kinds.Autopay object = command-callers _ refl
 asked-callers kinds.Janitor object = λ what is. let same : whats.Janitor ≡ what =
     cc in subst IsCallers same tt
 asked-callers kinds.Account object = query-callers _
 asked-callers kinds.Invoice object = query-callers _
 asked-callers kinds.Payment object = query-callers _
 asked-callers kinds.Subscription object = query-callers _
+asked-callers kind object = command-callers _ refl
 
 dated-callers : (today : Option ℕ) (told : Result What RequestFault) → AreCallers told
     → AskCallers (dated_on today told)

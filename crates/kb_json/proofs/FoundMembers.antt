@@ -10,7 +10,8 @@ use Rattle.kb_json.specs.declared.member.Sort.{Sort}
 use Rattle.kb_json.specs.declared.member.Sort.TheVariants as sort
 use Rattle.kb_json.specs.declared.wrong.Wrong.{Wrong}
 use Rattle.kb_json.specs.declared.wrong.Wrong.TheVariants as wrong
-use Rattle.kb_json.specs.Table.{members_of, sort_of}
+use Rattle.kb_json.specs.RequestKinds.{members_of}
+use Rattle.kb_json.specs.Members.{sort_of}
 use Rattle.kb_json.specs.Values.{name_in, key_in, currency_in, period_in, scope_in, day_in, amount_in}
 use Rattle.kb_json.specs.Values.{invoice_in, bcd_in}
 use Rattle.kb_json.specs.Wrongs.{value_at, has_type, wrong_of_type, wrong_in, wrong_needed, wrong_optional}

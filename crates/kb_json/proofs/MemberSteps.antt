@@ -3,7 +3,7 @@ use Rattle.std.proofs.Common.{◌≡◌, ℕ, Bool, true, false, List, Some, Non
 use Rattle.serde_json.specs.Data.{Data, Members, member}
 use Rattle.kb_json.specs.declared.member.Member.{Member}
 use Rattle.kb_json.specs.declared.wrong.Wrong.TheVariants as wrong
-use Rattle.kb_json.specs.Table.{sort_of}
+use Rattle.kb_json.specs.Members.{sort_of}
 use Rattle.kb_json.specs.Wrongs.{value_at, wrong_in, wrong_needed, wrong_optional, has_unknown}
 
 -- what is wrong with a member

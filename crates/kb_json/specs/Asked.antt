@@ -15,21 +15,23 @@ use Rattle.kb_codec.specs.declared.scope.BlockScope.{BlockScope}
 use Rattle.kb_codec.specs.declared.scope.BlockScope.TheVariants as scope
 use Rattle.kb_codec.specs.declared.command.Command.{Command}
 use Rattle.kb_codec.specs.declared.command.Command.TheVariants as commands
-use Rattle.kb_codec.specs.declared.command.OpenAccount.{OpenAccount}
-use Rattle.kb_codec.specs.declared.command.Create.{Create}
-use Rattle.kb_codec.specs.declared.command.Change.{Change}
-use Rattle.kb_codec.specs.declared.command.Cancel.{Cancel}
-use Rattle.kb_codec.specs.declared.command.Uncancel.{Uncancel}
-use Rattle.kb_codec.specs.declared.command.Pause.{Pause}
-use Rattle.kb_codec.specs.declared.command.Resume.{Resume}
-use Rattle.kb_codec.specs.declared.command.Block.{Block}
-use Rattle.kb_codec.specs.declared.command.Bill.{Bill}
-use Rattle.kb_codec.specs.declared.command.Charge.{Charge}
-use Rattle.kb_codec.specs.declared.command.Credit.{Credit}
-use Rattle.kb_codec.specs.declared.command.Pay.{Pay}
-use Rattle.kb_codec.specs.declared.command.Refund.{Refund}
-use Rattle.kb_codec.specs.declared.command.Chargeback.{Chargeback}
-use Rattle.kb_codec.specs.declared.command.Autopay.{Autopay}
+use Rattle.kb_codec.specs.declared.action.Action.{Action}
+use Rattle.kb_codec.specs.declared.action.Action.TheVariants as actions
+use Rattle.kb_codec.specs.declared.action.OpenAccount.{OpenAccount}
+use Rattle.kb_codec.specs.declared.action.Create.{Create}
+use Rattle.kb_codec.specs.declared.action.Change.{Change}
+use Rattle.kb_codec.specs.declared.action.Cancel.{Cancel}
+use Rattle.kb_codec.specs.declared.action.Uncancel.{Uncancel}
+use Rattle.kb_codec.specs.declared.action.Pause.{Pause}
+use Rattle.kb_codec.specs.declared.action.Resume.{Resume}
+use Rattle.kb_codec.specs.declared.action.Block.{Block}
+use Rattle.kb_codec.specs.declared.action.Bill.{Bill}
+use Rattle.kb_codec.specs.declared.action.Charge.{Charge}
+use Rattle.kb_codec.specs.declared.action.Credit.{Credit}
+use Rattle.kb_codec.specs.declared.action.Pay.{Pay}
+use Rattle.kb_codec.specs.declared.action.Refund.{Refund}
+use Rattle.kb_codec.specs.declared.action.Chargeback.{Chargeback}
+use Rattle.kb_codec.specs.declared.action.Autopay.{Autopay}
 use Rattle.kb_book.specs.declared.query.Query.{Query}
 use Rattle.kb_book.specs.declared.query.Query.TheVariants as queries
 use Rattle.kb_json.specs.declared.fault.RequestFault.{RequestFault}
@@ -108,10 +110,16 @@ text_fault (texts.Rule rule index) = faults.Text (texts.Rule rule index)
 text_fault texts.Memory = faults.NoMemory
 text_fault (texts.TooLong count) = faults.Text (texts.TooLong count)
 
--- a command and a query
+-- a command
 abbrev pub command_asked : Command → Result What RequestFault
 command_asked command = Ok (what.Command command)
 
+-- an action on the account, under the key, that the object names
+abbrev pub act_asked : Members → Action → Result What RequestFault
+act_asked object action =
+    command_asked (commands.Act (name_at object member.Account) (name_at object member.Key) action)
+
+-- a query
 abbrev pub query_asked : Query → Result What RequestFault
 query_asked query = Ok (what.Query query)
 
@@ -141,8 +149,6 @@ overdue_asked object = overdue_of (name_at object member.Key) (text_at object me
 -- an account that is opened
 abbrev pub open_at : Members → OpenAccount
 open_at object = record {
-  account = name_at object member.Account;
-  key = name_at object member.Key;
   currency = currency_at object member.Currency;
   bcd = bcd_at object member.Bcd;
   autopay = truth_at object member.Autopay;
@@ -151,8 +157,6 @@ open_at object = record {
 -- a subscription that is begun
 abbrev pub create_at : Members → Create
 create_at object = record {
-  account = name_at object member.Account;
-  key = name_at object member.Key;
   bundle = name_at object member.Bundle;
   subscription = name_at object member.Subscription;
   product = name_at object member.Product;
@@ -164,8 +168,6 @@ create_at object = record {
 -- a change of a subscription
 abbrev pub change_at : Members → Change
 change_at object = record {
-  account = name_at object member.Account;
-  key = name_at object member.Key;
   subscription = name_at object member.Subscription;
   product = name_at object member.Product;
   period = period_at object member.Period;
@@ -176,8 +178,6 @@ change_at object = record {
 -- a cancellation
 abbrev pub cancel_at : Members → Cancel
 cancel_at object = record {
-  account = name_at object member.Account;
-  key = name_at object member.Key;
   subscription = name_at object member.Subscription;
   day = day_at object member.Day;
 }
@@ -185,24 +185,18 @@ cancel_at object = record {
 -- a cancellation that is taken back
 abbrev pub uncancel_at : Members → Uncancel
 uncancel_at object = record {
-  account = name_at object member.Account;
-  key = name_at object member.Key;
   subscription = name_at object member.Subscription;
 }
 
 -- a pause of a bundle, and its end
 abbrev pub pause_at : Members → Pause
 pause_at object = record {
-  account = name_at object member.Account;
-  key = name_at object member.Key;
   bundle = name_at object member.Bundle;
   day = day_at object member.Day;
 }
 
 abbrev pub resume_at : Members → Resume
 resume_at object = record {
-  account = name_at object member.Account;
-  key = name_at object member.Key;
   bundle = name_at object member.Bundle;
   day = day_at object member.Day;
 }
@@ -210,8 +204,6 @@ resume_at object = record {
 -- a blocking state
 abbrev pub block_at : Members → Block
 block_at object = record {
-  account = name_at object member.Account;
-  key = name_at object member.Key;
   scope = scope_at object member.Scope;
   target = name_at object member.Target;
   service = name_at object member.Service;
@@ -223,31 +215,23 @@ block_at object = record {
 -- the billing of what is due
 abbrev pub bill_at : Members → Bill
 bill_at object = record {
-  account = name_at object member.Account;
-  key = name_at object member.Key;
   day = day_at object member.Day;
 }
 
 -- a charge and a credit
 abbrev pub charge_at : Members → Charge
 charge_at object = record {
-  account = name_at object member.Account;
-  key = name_at object member.Key;
   amount = amount_at object member.Amount;
 }
 
 abbrev pub credit_at : Members → Credit
 credit_at object = record {
-  account = name_at object member.Account;
-  key = name_at object member.Key;
   amount = amount_at object member.Amount;
 }
 
 -- a payment
 abbrev pub pay_at : Members → Pay
 pay_at object = record {
-  account = name_at object member.Account;
-  key = name_at object member.Key;
   payment = name_at object member.Payment;
   invoice = invoice_at object member.Invoice;
   amount = amount_if object member.Amount;
@@ -256,8 +240,6 @@ pay_at object = record {
 -- a refund and a chargeback
 abbrev pub refund_at : Members → Refund
 refund_at object = record {
-  account = name_at object member.Account;
-  key = name_at object member.Key;
   payment = name_at object member.Payment;
   of = name_at object member.Of;
   amount = amount_at object member.Amount;
@@ -265,8 +247,6 @@ refund_at object = record {
 
 abbrev pub chargeback_at : Members → Chargeback
 chargeback_at object = record {
-  account = name_at object member.Account;
-  key = name_at object member.Key;
   payment = name_at object member.Payment;
   of = name_at object member.Of;
   amount = amount_at object member.Amount;
@@ -275,8 +255,6 @@ chargeback_at object = record {
 -- the switch of automatic payment
 abbrev pub autopay_at : Members → Autopay
 autopay_at object = record {
-  account = name_at object member.Account;
-  key = name_at object member.Key;
   on = truth_at object member.On;
 }
 
@@ -298,21 +276,21 @@ subscription_query object = queries.Subscription (name_at object member.Account)
 unfoldable pub asked : Kind → Members → Result What RequestFault
 asked kinds.Catalog object = catalog_asked object
 asked kinds.OverdueRules object = overdue_asked object
-asked kinds.OpenAccount object = command_asked (commands.OpenAccount (open_at object))
-asked kinds.Create object = command_asked (commands.Create (create_at object))
-asked kinds.Change object = command_asked (commands.Change (change_at object))
-asked kinds.Cancel object = command_asked (commands.Cancel (cancel_at object))
-asked kinds.Uncancel object = command_asked (commands.Uncancel (uncancel_at object))
-asked kinds.Pause object = command_asked (commands.Pause (pause_at object))
-asked kinds.Resume object = command_asked (commands.Resume (resume_at object))
-asked kinds.Block object = command_asked (commands.Block (block_at object))
-asked kinds.Bill object = command_asked (commands.Bill (bill_at object))
-asked kinds.Charge object = command_asked (commands.Charge (charge_at object))
-asked kinds.Credit object = command_asked (commands.Credit (credit_at object))
-asked kinds.Pay object = command_asked (commands.Pay (pay_at object))
-asked kinds.Refund object = command_asked (commands.Refund (refund_at object))
-asked kinds.Chargeback object = command_asked (commands.Chargeback (chargeback_at object))
-asked kinds.Autopay object = command_asked (commands.Autopay (autopay_at object))
+asked kinds.OpenAccount object = act_asked object (actions.OpenAccount (open_at object))
+asked kinds.Create object = act_asked object (actions.Create (create_at object))
+asked kinds.Change object = act_asked object (actions.Change (change_at object))
+asked kinds.Cancel object = act_asked object (actions.Cancel (cancel_at object))
+asked kinds.Uncancel object = act_asked object (actions.Uncancel (uncancel_at object))
+asked kinds.Pause object = act_asked object (actions.Pause (pause_at object))
+asked kinds.Resume object = act_asked object (actions.Resume (resume_at object))
+asked kinds.Block object = act_asked object (actions.Block (block_at object))
+asked kinds.Bill object = act_asked object (actions.Bill (bill_at object))
+asked kinds.Charge object = act_asked object (actions.Charge (charge_at object))
+asked kinds.Credit object = act_asked object (actions.Credit (credit_at object))
+asked kinds.Pay object = act_asked object (actions.Pay (pay_at object))
+asked kinds.Refund object = act_asked object (actions.Refund (refund_at object))
+asked kinds.Chargeback object = act_asked object (actions.Chargeback (chargeback_at object))
+asked kinds.Autopay object = act_asked object (actions.Autopay (autopay_at object))
 asked kinds.Janitor object = Ok what.Janitor
 asked kinds.Account object = query_asked (account_query object)
 asked kinds.Invoice object = query_asked (invoice_query object)

@@ -2,13 +2,13 @@ pub mod Answers
 pub mod Asked
 pub mod Callers
 pub mod JsonTexts
+pub mod Members
 pub mod Private
 pub mod Refusals
 pub mod RequestKinds
 pub mod Requests
 pub mod SmallAnswers
 pub mod SmallLines
-pub mod Table
 pub mod Telling
 pub mod Values
 pub mod Words

@@ -1,6 +1,6 @@
 -- What a line is read as: a request, or its first fault.
-use Rattle.std.specs.Prelude.{ℕ, ◌≡◌, Bool, List, codes, if◌then◌else◌, Option, Some, None}
-use Rattle.std.specs.Prelude.{Result, Ok, Err, option_and_then}
+use Rattle.std.specs.Prelude.{ℕ, ◌≡◌, Bool, List, codes, if◌then◌else◌, Option, Some, None, Result, Ok, Err}
+use Rattle.std.specs.Prelude.{option_and_then}
 use Rattle.std.specs.Str.{is_utf8}
 use Rattle.serde_json.specs.Data.{Data, Members}
 use Rattle.serde_json.specs.Read.{read}

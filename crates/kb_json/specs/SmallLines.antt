@@ -17,6 +17,7 @@ use Rattle.kb_catalog_text.specs.OverdueText.{states_in}
 use Rattle.kb_catalog_text.specs.CatalogText.{version_in}
 use Rattle.kb_catalog_text.specs.Texts.{text_read, document_of}
 use Rattle.kb_codec.specs.declared.command.Command.TheVariants as commands
+use Rattle.kb_codec.specs.declared.action.Action.TheVariants as actions
 use Rattle.kb_codec.specs.declared.scope.BlockScope.TheVariants as scope
 use Rattle.kb_book.specs.declared.query.Query.TheVariants as queries
 use Rattle.kb_json.specs.declared.fault.JsonFault.TheVariants as json
@@ -25,8 +26,8 @@ use Rattle.kb_json.specs.declared.request.What.TheVariants as what
 use Rattle.kb_json.specs.RequestKinds.{kind_named}
 use Rattle.kb_json.specs.Values.{text_where, name_in, key_in, currency_in, period_named, period_in}
 use Rattle.kb_json.specs.Values.{scope_named, scope_in, day_in, whole_in, amount_in, invoice_in, bcd_in}
-use Rattle.kb_json.specs.Wrongs.{has_type, wrong_of_type, wrong_in, wrong_needed, wrong_optional}
-use Rattle.kb_json.specs.Wrongs.{wrong_today, first_wrong, has_unknown}
+use Rattle.kb_json.specs.Wrongs.{has_type, wrong_of_type, wrong_in, wrong_needed, wrong_optional, wrong_today}
+use Rattle.kb_json.specs.Wrongs.{first_wrong, has_unknown}
 use Rattle.kb_json.specs.Asked.{asked}
 use Rattle.kb_json.specs.Requests.{json_of, kind_in, ask_of_kind, ask_of_object, ask_of_value, ask}
 
@@ -67,13 +68,11 @@ an_opening : ask true (line
     (codes "{'do':'open','account':'a1','key':'k1','currency':'USD','bcd':31,'today':'2024-03-10'}"))
     ≡ Ok (record {
       today = Some (march 10);
-      what = what.Command (commands.OpenAccount (record {
-        account = codes "a1";
-        key = codes "k1";
+      what = what.Command (commands.Act (codes "a1") (codes "k1") (actions.OpenAccount (record {
         currency = codes "USD";
         bcd = 31;
         autopay = false;
-      }));
+      })));
     })
 unfolding on_lines
 an_opening = refl
@@ -83,16 +82,14 @@ a_creation : ask false (line
     ++ codes "'product':'Basic','period':'MONTHLY'}"))
     ≡ Ok (record {
       today = None;
-      what = what.Command (commands.Create (record {
-        account = codes "a1";
-        key = codes "k1";
+      what = what.Command (commands.Act (codes "a1") (codes "k1") (actions.Create (record {
         bundle = codes "b1";
         subscription = codes "s1";
         product = codes "Basic";
         period = period.Monthly;
         list = codes "DEFAULT";
         day = None;
-      }));
+      })));
     })
 unfolding on_lines
 a_creation = refl
@@ -102,15 +99,13 @@ a_change : ask false (line
     ++ codes "'period':'ANNUAL','list':'Sale','day':'2024-03-15'}"))
     ≡ Ok (record {
       today = None;
-      what = what.Command (commands.Change (record {
-        account = codes "a1";
-        key = codes "k1";
+      what = what.Command (commands.Act (codes "a1") (codes "k1") (actions.Change (record {
         subscription = codes "s1";
         product = codes "Gold";
         period = period.Annual;
         list = codes "Sale";
         day = Some (march 15);
-      }));
+      })));
     })
 unfolding on_lines
 a_change = refl
@@ -119,12 +114,10 @@ a_cancellation : ask false (line
     (codes "{'do':'cancel','account':'a1','key':'k1','subscription':'s1','day':'2024-03-20'}"))
     ≡ Ok (record {
       today = None;
-      what = what.Command (commands.Cancel (record {
-        account = codes "a1";
-        key = codes "k1";
+      what = what.Command (commands.Act (codes "a1") (codes "k1") (actions.Cancel (record {
         subscription = codes "s1";
         day = Some (march 20);
-      }));
+      })));
     })
 unfolding on_lines
 a_cancellation = refl
@@ -132,11 +125,9 @@ a_cancellation = refl
 an_uncancellation : ask false (line (codes "{'do':'uncancel','account':'a1','key':'k1','subscription':'s1'}"))
     ≡ Ok (record {
       today = None;
-      what = what.Command (commands.Uncancel (record {
-        account = codes "a1";
-        key = codes "k1";
+      what = what.Command (commands.Act (codes "a1") (codes "k1") (actions.Uncancel (record {
         subscription = codes "s1";
-      }));
+      })));
     })
 unfolding on_lines
 an_uncancellation = refl
@@ -144,12 +135,10 @@ an_uncancellation = refl
 a_pause : ask false (line (codes "{'do':'pause','account':'a1','key':'k1','bundle':'b1'}"))
     ≡ Ok (record {
       today = None;
-      what = what.Command (commands.Pause (record {
-        account = codes "a1";
-        key = codes "k1";
+      what = what.Command (commands.Act (codes "a1") (codes "k1") (actions.Pause (record {
         bundle = codes "b1";
         day = None;
-      }));
+      })));
     })
 unfolding on_lines
 a_pause = refl
@@ -157,12 +146,10 @@ a_pause = refl
 its_end : ask false (line (codes "{'do':'resume','account':'a1','key':'k1','bundle':'b1'}"))
     ≡ Ok (record {
       today = None;
-      what = what.Command (commands.Resume (record {
-        account = codes "a1";
-        key = codes "k1";
+      what = what.Command (commands.Act (codes "a1") (codes "k1") (actions.Resume (record {
         bundle = codes "b1";
         day = None;
-      }));
+      })));
     })
 unfolding on_lines
 its_end = refl
@@ -172,16 +159,14 @@ a_block : ask false (line
     ++ codes "'state':'OFF','billing':true}"))
     ≡ Ok (record {
       today = None;
-      what = what.Command (commands.Block (record {
-        account = codes "a1";
-        key = codes "k1";
+      what = what.Command (commands.Act (codes "a1") (codes "k1") (actions.Block (record {
         scope = scope.Bundle;
         target = codes "b1";
         service = codes "svc";
         state = codes "OFF";
         day = None;
         flags = record { change = false; entitlement = false; billing = true };
-      }));
+      })));
     })
 unfolding on_lines
 a_block = refl
@@ -189,11 +174,9 @@ a_block = refl
 a_bill : ask true (line (codes " { 'key' : 'k1', 'do' : 'bill', 'account' : 'a1' } "))
     ≡ Ok (record {
       today = None;
-      what = what.Command (commands.Bill (record {
-        account = codes "a1";
-        key = codes "k1";
+      what = what.Command (commands.Act (codes "a1") (codes "k1") (actions.Bill (record {
         day = None;
-      }));
+      })));
     })
 unfolding on_lines
 a_bill = refl
@@ -201,11 +184,9 @@ a_bill = refl
 a_charge : ask false (line (codes "{'do':'charge','account':'a1','key':'k1','amount':500}"))
     ≡ Ok (record {
       today = None;
-      what = what.Command (commands.Charge (record {
-        account = codes "a1";
-        key = codes "k1";
+      what = what.Command (commands.Act (codes "a1") (codes "k1") (actions.Charge (record {
         amount = 500;
-      }));
+      })));
     })
 unfolding on_lines
 a_charge = refl
@@ -213,11 +194,9 @@ a_charge = refl
 a_credit : ask false (line (codes "{'do':'credit','account':'a1','key':'k1','amount':1}"))
     ≡ Ok (record {
       today = None;
-      what = what.Command (commands.Credit (record {
-        account = codes "a1";
-        key = codes "k1";
+      what = what.Command (commands.Act (codes "a1") (codes "k1") (actions.Credit (record {
         amount = 1;
-      }));
+      })));
     })
 unfolding on_lines
 a_credit = refl
@@ -225,13 +204,11 @@ a_credit = refl
 a_payment : ask false (line (codes "{'do':'pay','account':'a1','key':'k1','payment':'p1','invoice':1}"))
     ≡ Ok (record {
       today = None;
-      what = what.Command (commands.Pay (record {
-        account = codes "a1";
-        key = codes "k1";
+      what = what.Command (commands.Act (codes "a1") (codes "k1") (actions.Pay (record {
         payment = codes "p1";
         invoice = 1;
         amount = None;
-      }));
+      })));
     })
 unfolding on_lines
 a_payment = refl
@@ -240,13 +217,11 @@ a_refund : ask false (line
     (codes "{'do':'refund','account':'a1','key':'k1','payment':'r1','of':'p1','amount':5}"))
     ≡ Ok (record {
       today = None;
-      what = what.Command (commands.Refund (record {
-        account = codes "a1";
-        key = codes "k1";
+      what = what.Command (commands.Act (codes "a1") (codes "k1") (actions.Refund (record {
         payment = codes "r1";
         of = codes "p1";
         amount = 5;
-      }));
+      })));
     })
 unfolding on_lines
 a_refund = refl
@@ -255,13 +230,11 @@ a_chargeback : ask false (line
     (codes "{'do':'chargeback','account':'a1','key':'k1','payment':'c1','of':'p1','amount':5}"))
     ≡ Ok (record {
       today = None;
-      what = what.Command (commands.Chargeback (record {
-        account = codes "a1";
-        key = codes "k1";
+      what = what.Command (commands.Act (codes "a1") (codes "k1") (actions.Chargeback (record {
         payment = codes "c1";
         of = codes "p1";
         amount = 5;
-      }));
+      })));
     })
 unfolding on_lines
 a_chargeback = refl
@@ -269,11 +242,9 @@ a_chargeback = refl
 a_switch : ask false (line (codes "{'do':'autopay','account':'a1','key':'k1','on':true}"))
     ≡ Ok (record {
       today = None;
-      what = what.Command (commands.Autopay (record {
-        account = codes "a1";
-        key = codes "k1";
+      what = what.Command (commands.Act (codes "a1") (codes "k1") (actions.Autopay (record {
         on = true;
-      }));
+      })));
     })
 unfolding on_lines
 a_switch = refl

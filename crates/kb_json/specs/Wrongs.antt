@@ -14,7 +14,8 @@ use Rattle.kb_json.specs.declared.member.Sort.{Sort}
 use Rattle.kb_json.specs.declared.member.Sort.TheVariants as sort
 use Rattle.kb_json.specs.declared.wrong.Wrong.{Wrong}
 use Rattle.kb_json.specs.declared.wrong.Wrong.TheVariants as wrong
-use Rattle.kb_json.specs.Table.{members_of, member_name, sort_of}
+use Rattle.kb_json.specs.RequestKinds.{members_of}
+use Rattle.kb_json.specs.Members.{member_name, sort_of}
 use Rattle.kb_json.specs.Values.{name_in, key_in, currency_in, period_in, scope_in, day_in, whole_in, bcd_in}
 use Rattle.kb_json.specs.Values.{amount_in, invoice_in, text_where}
 

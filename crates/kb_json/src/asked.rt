@@ -1,8 +1,7 @@
 //! What a request asks for, once nothing is wrong with its members.
 ghost use Rattle.std.specs.Prelude.{◌≡◌};
 ghost use Rattle.serde_json.specs.View.{members_view};
-ghost use Rattle.kb_json.specs.Asked.{asked, command_asked, query_asked, catalog_asked, overdue_asked};
-ghost use Rattle.kb_json.specs.Asked.{IsAsked};
+ghost use Rattle.kb_json.specs.Asked.{asked, act_asked, query_asked, catalog_asked, overdue_asked, IsAsked};
 
 use crate::commands::{
     autopay_at, bill_at, block_at, cancel_at, change_at, charge_at, chargeback_at, create_at,
@@ -17,7 +16,7 @@ use crate::queries::{account_query, invoice_query, payment_query, subscription_q
 use crate::request::What;
 use kb_book::Query;
 use kb_catalog_text::{read, read_overdue};
-use kb_codec::{Catalog, Command, OverdueRules};
+use kb_codec::{Action, Catalog, Command, OverdueRules};
 use std::alloc::Global;
 
 /// What a request of a kind asks for.
@@ -28,21 +27,21 @@ pub(crate) fn asked(alloc: Global, kind: Kind, object: &Object) -> Result<What, 
     match kind {
         Kind::Catalog => catalog_asked(alloc, object),
         Kind::OverdueRules => overdue_asked(alloc, object),
-        Kind::OpenAccount => command(Command::OpenAccount(open_at(object))),
-        Kind::Create => command(Command::Create(create_at(object))),
-        Kind::Change => command(Command::Change(change_at(object))),
-        Kind::Cancel => command(Command::Cancel(cancel_at(object))),
-        Kind::Uncancel => command(Command::Uncancel(uncancel_at(object))),
-        Kind::Pause => command(Command::Pause(pause_at(object))),
-        Kind::Resume => command(Command::Resume(resume_at(object))),
-        Kind::Block => command(Command::Block(block_at(object))),
-        Kind::Bill => command(Command::Bill(bill_at(object))),
-        Kind::Charge => command(Command::Charge(charge_at(object))),
-        Kind::Credit => command(Command::Credit(credit_at(object))),
-        Kind::Pay => command(Command::Pay(pay_at(object))),
-        Kind::Refund => command(Command::Refund(refund_at(object))),
-        Kind::Chargeback => command(Command::Chargeback(chargeback_at(object))),
-        Kind::Autopay => command(Command::Autopay(autopay_at(object))),
+        Kind::OpenAccount => act(object, Action::OpenAccount(open_at(object))),
+        Kind::Create => act(object, Action::Create(create_at(object))),
+        Kind::Change => act(object, Action::Change(change_at(object))),
+        Kind::Cancel => act(object, Action::Cancel(cancel_at(object))),
+        Kind::Uncancel => act(object, Action::Uncancel(uncancel_at(object))),
+        Kind::Pause => act(object, Action::Pause(pause_at(object))),
+        Kind::Resume => act(object, Action::Resume(resume_at(object))),
+        Kind::Block => act(object, Action::Block(block_at(object))),
+        Kind::Bill => act(object, Action::Bill(bill_at(object))),
+        Kind::Charge => act(object, Action::Charge(charge_at(object))),
+        Kind::Credit => act(object, Action::Credit(credit_at(object))),
+        Kind::Pay => act(object, Action::Pay(pay_at(object))),
+        Kind::Refund => act(object, Action::Refund(refund_at(object))),
+        Kind::Chargeback => act(object, Action::Chargeback(chargeback_at(object))),
+        Kind::Autopay => act(object, Action::Autopay(autopay_at(object))),
         Kind::Janitor => Ok(What::Janitor),
         Kind::Account => query(account_query(object)),
         Kind::Invoice => query(invoice_query(object)),
@@ -51,11 +50,15 @@ pub(crate) fn asked(alloc: Global, kind: Kind, object: &Object) -> Result<What, 
     }
 }
 
-/// A command.
-fn command(command: Command) -> Result<What, RequestFault>
-    ensures { result ≡ command_asked command }
+/// An action on the account, under the key, that the object names.
+fn act(object: &Object, action: Action) -> Result<What, RequestFault>
+    ensures { result ≡ act_asked (members_view object.now.entries) action }
 {
-    Ok(What::Command(command))
+    Ok(What::Command(Command::Act {
+        account: name_at(object, Member::Account),
+        key: name_at(object, Member::Key),
+        action,
+    }))
 }
 
 /// A query.

@@ -1,9 +1,9 @@
-//! The commands that objects say.
+//! The actions that objects say.
 ghost use Rattle.std.specs.Prelude.{◌≡◌};
 ghost use Rattle.serde_json.specs.View.{members_view};
 ghost use Rattle.kb_json.specs.Asked.{open_at, create_at, change_at, cancel_at, uncancel_at, pause_at};
-ghost use Rattle.kb_json.specs.Asked.{resume_at, block_at, bill_at, charge_at, credit_at, pay_at};
-ghost use Rattle.kb_json.specs.Asked.{refund_at, chargeback_at, autopay_at};
+ghost use Rattle.kb_json.specs.Asked.{resume_at, block_at, bill_at, charge_at, credit_at, pay_at, refund_at};
+ghost use Rattle.kb_json.specs.Asked.{chargeback_at, autopay_at};
 
 use crate::found::{
     amount_at, amount_if, bcd_at, currency_at, day_at, flags_at, invoice_at, name_at, period_at,
@@ -21,8 +21,6 @@ pub(crate) fn open_at(object: &Object) -> OpenAccount
     ensures { result ≡ open_at (members_view object.now.entries) }
 {
     OpenAccount {
-        account: name_at(object, Member::Account),
-        key: name_at(object, Member::Key),
         currency: currency_at(object, Member::Currency),
         bcd: bcd_at(object, Member::Bcd),
         autopay: truth_at(object, Member::Autopay),
@@ -34,8 +32,6 @@ pub(crate) fn create_at(object: &Object) -> Create
     ensures { result ≡ create_at (members_view object.now.entries) }
 {
     Create {
-        account: name_at(object, Member::Account),
-        key: name_at(object, Member::Key),
         bundle: name_at(object, Member::Bundle),
         subscription: name_at(object, Member::Subscription),
         product: name_at(object, Member::Product),
@@ -50,8 +46,6 @@ pub(crate) fn change_at(object: &Object) -> Change
     ensures { result ≡ change_at (members_view object.now.entries) }
 {
     Change {
-        account: name_at(object, Member::Account),
-        key: name_at(object, Member::Key),
         subscription: name_at(object, Member::Subscription),
         product: name_at(object, Member::Product),
         period: period_at(object, Member::Period),
@@ -65,8 +59,6 @@ pub(crate) fn cancel_at(object: &Object) -> Cancel
     ensures { result ≡ cancel_at (members_view object.now.entries) }
 {
     Cancel {
-        account: name_at(object, Member::Account),
-        key: name_at(object, Member::Key),
         subscription: name_at(object, Member::Subscription),
         day: day_at(object, Member::Day),
     }
@@ -77,8 +69,6 @@ pub(crate) fn uncancel_at(object: &Object) -> Uncancel
     ensures { result ≡ uncancel_at (members_view object.now.entries) }
 {
     Uncancel {
-        account: name_at(object, Member::Account),
-        key: name_at(object, Member::Key),
         subscription: name_at(object, Member::Subscription),
     }
 }
@@ -88,8 +78,6 @@ pub(crate) fn pause_at(object: &Object) -> Pause
     ensures { result ≡ pause_at (members_view object.now.entries) }
 {
     Pause {
-        account: name_at(object, Member::Account),
-        key: name_at(object, Member::Key),
         bundle: name_at(object, Member::Bundle),
         day: day_at(object, Member::Day),
     }
@@ -100,8 +88,6 @@ pub(crate) fn resume_at(object: &Object) -> Resume
     ensures { result ≡ resume_at (members_view object.now.entries) }
 {
     Resume {
-        account: name_at(object, Member::Account),
-        key: name_at(object, Member::Key),
         bundle: name_at(object, Member::Bundle),
         day: day_at(object, Member::Day),
     }
@@ -112,8 +98,6 @@ pub(crate) fn block_at(object: &Object) -> Block
     ensures { result ≡ block_at (members_view object.now.entries) }
 {
     Block {
-        account: name_at(object, Member::Account),
-        key: name_at(object, Member::Key),
         scope: scope_at(object, Member::Scope),
         target: name_at(object, Member::Target),
         service: name_at(object, Member::Service),
@@ -128,8 +112,6 @@ pub(crate) fn bill_at(object: &Object) -> Bill
     ensures { result ≡ bill_at (members_view object.now.entries) }
 {
     Bill {
-        account: name_at(object, Member::Account),
-        key: name_at(object, Member::Key),
         day: day_at(object, Member::Day),
     }
 }
@@ -139,8 +121,6 @@ pub(crate) fn charge_at(object: &Object) -> Charge
     ensures { result ≡ charge_at (members_view object.now.entries) }
 {
     Charge {
-        account: name_at(object, Member::Account),
-        key: name_at(object, Member::Key),
         amount: amount_at(object, Member::Amount),
     }
 }
@@ -150,8 +130,6 @@ pub(crate) fn credit_at(object: &Object) -> Credit
     ensures { result ≡ credit_at (members_view object.now.entries) }
 {
     Credit {
-        account: name_at(object, Member::Account),
-        key: name_at(object, Member::Key),
         amount: amount_at(object, Member::Amount),
     }
 }
@@ -161,8 +139,6 @@ pub(crate) fn pay_at(object: &Object) -> Pay
     ensures { result ≡ pay_at (members_view object.now.entries) }
 {
     Pay {
-        account: name_at(object, Member::Account),
-        key: name_at(object, Member::Key),
         payment: name_at(object, Member::Payment),
         invoice: invoice_at(object, Member::Invoice),
         amount: amount_if(object, Member::Amount),
@@ -174,8 +150,6 @@ pub(crate) fn refund_at(object: &Object) -> Refund
     ensures { result ≡ refund_at (members_view object.now.entries) }
 {
     Refund {
-        account: name_at(object, Member::Account),
-        key: name_at(object, Member::Key),
         payment: name_at(object, Member::Payment),
         of: name_at(object, Member::Of),
         amount: amount_at(object, Member::Amount),
@@ -187,8 +161,6 @@ pub(crate) fn chargeback_at(object: &Object) -> Chargeback
     ensures { result ≡ chargeback_at (members_view object.now.entries) }
 {
     Chargeback {
-        account: name_at(object, Member::Account),
-        key: name_at(object, Member::Key),
         payment: name_at(object, Member::Payment),
         of: name_at(object, Member::Of),
         amount: amount_at(object, Member::Amount),
@@ -200,8 +172,6 @@ pub(crate) fn autopay_at(object: &Object) -> Autopay
     ensures { result ≡ autopay_at (members_view object.now.entries) }
 {
     Autopay {
-        account: name_at(object, Member::Account),
-        key: name_at(object, Member::Key),
         on: truth_at(object, Member::On),
     }
 }

@@ -26,7 +26,6 @@ mod reply;
 mod request;
 mod said;
 mod said_words;
-mod table;
 mod values;
 mod view;
 mod words;

@@ -1,6 +1,6 @@
 //! The members of requests, and what their values are.
 ghost use Rattle.std.specs.Prelude.{◌≡◌};
-ghost use Rattle.kb_json.specs.Table.{member_name, sort_of};
+ghost use Rattle.kb_json.specs.Members.{member_name, sort_of};
 
 /// A member of a request.
 #[derive(Clone, Copy)]

@@ -4,9 +4,8 @@ ghost use Rattle.serde_json.specs.Find.{get_member};
 ghost use Rattle.serde_json.specs.View.{view, members_view};
 ghost use Rattle.kb_json.specs.Wrongs.{value_at, is_among, is_known, has_unknown};
 
-use crate::kind::Kind;
+use crate::kind::{Kind, needed, optional};
 use crate::member::Member;
-use crate::table::{needed, optional};
 use serde_json::{Map, Value};
 
 /// A JSON object. Of two members with one name it has the last.

@@ -4,10 +4,9 @@ ghost use Rattle.serde_json.specs.View.{view, members_view};
 ghost use Rattle.kb_json.specs.Wrongs.{has_type, wrong_of_type, wrong_in, wrong_needed, wrong_optional};
 ghost use Rattle.kb_json.specs.Wrongs.{told_first, told_of, wrong_today, first_wrong};
 
-use crate::kind::Kind;
+use crate::kind::{Kind, needed, optional};
 use crate::member::{Member, Sort};
 use crate::object::{Object, value_at};
-use crate::table::{needed, optional};
 use crate::values::{
     amount_in, bcd_in, currency_in, day_in, invoice_in, key_in, name_in, period_in, scope_in,
     whole_in,

@@ -14,6 +14,7 @@ use Rattle.kb_gateway.specs.declared.order.Asked.{Asked}
 use Rattle.kb_gateway.specs.Answers.{Notes}
 use Rattle.kb_codec.specs.declared.command.Command.{Command}
 use Rattle.kb_codec.specs.declared.command.Command.TheVariants as kinds
+use Rattle.kb_codec.specs.declared.action.Action.TheVariants as actions
 use Rattle.kb_machine.specs.Judged.{is_new}
 use Rattle.kb_machine.specs.Machines.{MachineValue, judged}
 use Rattle.kb_codec.specs.Senders.{account_of}
@@ -40,8 +41,8 @@ asks-begun : (today : ℕ) (command : Command)
     → asks_in (work_of (today, command)) ≡ begun_of (account_of command) (begun_key today command)
 asks-begun today (kinds.Catalog c) = refl
 asks-begun today (kinds.OverdueRules c) = refl
-asks-begun today (kinds.Pay c) = refl
-asks-begun today (kinds.Refund c) = refl
+asks-begun today (kinds.Act account key (actions.Pay c)) = refl
+asks-begun today (kinds.Act account key (actions.Refund c)) = refl
 asks-begun today (kinds.Auto c) = refl
 asks-begun today command = refl
 

@@ -5,7 +5,7 @@ use Rattle.kb_codec.specs.declared.command.Command.{Command}
 use Rattle.kb_codec.specs.declared.command.Command.TheVariants as kinds
 use Rattle.kb_book.specs.Worlds.{WorldValue}
 use Rattle.kb_book.specs.Books.{BookValue}
-use Rattle.kb_book.specs.BlockRows.{has_all_states}
+use Rattle.kb_book.specs.BlockCommands.{has_all_states}
 use Rattle.kb_book.specs.Inner.{is_transition_due, invoice_due}
 use Rattle.kb_book.specs.NextDues.{transition_of, payment_of, next_due}
 use Rattle.kb_histories.specs.Attempts.{settles}

@@ -14,6 +14,7 @@ use Rattle.kb_gateway.specs.declared.told.Told.{Told}
 use Rattle.kb_gateway.specs.declared.told.Told.TheVariants as told
 use Rattle.kb_codec.specs.declared.command.Command.{Command}
 use Rattle.kb_codec.specs.declared.command.Command.TheVariants as kinds
+use Rattle.kb_codec.specs.declared.action.Action.TheVariants as actions
 use Rattle.kb_payment.specs.declared.attempt.Status.{Status}
 use Rattle.kb_payment.specs.declared.attempt.Status.TheVariants as status
 use Rattle.kb_book.specs.Books.{BookValue}
@@ -46,8 +47,8 @@ use Rattle.kb_lane.specs.LaneWork.{entry_work, account_in, is_named, lane_work}
 left-work : (today : ℕ) (command : Command) → sum_by entry_work (work_of (today, command)) ≡ work_left command
 left-work today (kinds.Catalog c) = refl
 left-work today (kinds.OverdueRules c) = refl
-left-work today (kinds.Pay c) = refl
-left-work today (kinds.Refund c) = refl
+left-work today (kinds.Act account key (actions.Pay c)) = refl
+left-work today (kinds.Act account key (actions.Refund c)) = refl
 left-work today (kinds.Auto c) = refl
 left-work today command = refl
 
@@ -57,12 +58,12 @@ left-named : (today : ℕ) (command : Command) (account : List ℕ)
     → bytes_eq account (account_of command) ≡ true
 left-named today (kinds.Catalog c) account is = absurd (true≢false (sym is))
 left-named today (kinds.OverdueRules c) account is = absurd (true≢false (sym is))
-left-named today (kinds.Pay c) account is = either (bytes_eq account c.account) is
+left-named today (kinds.Act whose key (actions.Pay c)) account is = either (bytes_eq account whose) is
   where
     either : (b : Bool) → (b || (b || false)) ≡ true → b ≡ true
     either true is = refl
     either false is = is
-left-named today (kinds.Refund c) account is = either (bytes_eq account c.account) is
+left-named today (kinds.Act whose key (actions.Refund c)) account is = either (bytes_eq account whose) is
   where
     either : (b : Bool) → (b || (b || false)) ≡ true → b ≡ true
     either true is = refl

@@ -5,6 +5,7 @@ use Rattle.kb_days.specs.Dates.{march}
 use Rattle.kb_days.specs.Calendar.{month_start, month_of, day_of_month, month_after, month_length}
 use Rattle.kb_codec.specs.declared.command.Command.{Command}
 use Rattle.kb_codec.specs.declared.command.Command.TheVariants as kinds
+use Rattle.kb_codec.specs.declared.action.Action.TheVariants as actions
 use Rattle.kb_gateway.specs.declared.order.Asked.{Asked}
 use Rattle.kb_gateway.specs.declared.told.Saying.{Saying}
 use Rattle.kb_machine.specs.Machines.{MachineValue}
@@ -23,7 +24,7 @@ of_march = refl
 
 -- the bill of an account up to a day
 abbrev pub bill_of : List ℕ → ℕ → Command
-bill_of account day = kinds.Bill (record { account = account; key = bill_key day; day = Some day })
+bill_of account day = kinds.Act account (bill_key day) (actions.Bill (record { day = Some day }))
 
 -- An account is given its bill of a day, on that day, and what this leaves to do is handled.
 abbrev pub BillsAccount : {D G : Type 0} → (D → ℕ) → (G → Option (List Asked)) → (G → Option (List Saying))

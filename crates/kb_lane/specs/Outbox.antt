@@ -3,6 +3,7 @@ use Rattle.std.specs.Prelude.{◌≡◌, List, [], ◌∷◌, ◌++◌, codes, r
 use Rattle.kb_days.specs.Dates.{march}
 use Rattle.kb_codec.specs.declared.command.Command.{Command}
 use Rattle.kb_codec.specs.declared.command.Command.TheVariants as kinds
+use Rattle.kb_codec.specs.declared.action.Action.TheVariants as actions
 use Rattle.kb_book.specs.Edits.{auto_key}
 use Rattle.kb_codec.specs.Entries.{Entry}
 use Rattle.kb_codec.specs.Senders.{account_of}
@@ -11,8 +12,8 @@ use Rattle.kb_lane.specs.declared.work.Work.TheVariants.{Ask, Check}
 
 -- the payment that the gateway is to be asked for: of an account, by its key
 abbrev pub ask_of : Entry → List Work
-ask_of (today, kinds.Pay c) = Ask c.account c.payment ∷ []
-ask_of (today, kinds.Refund c) = Ask c.account c.payment ∷ []
+ask_of (today, kinds.Act account key (actions.Pay c)) = Ask account c.payment ∷ []
+ask_of (today, kinds.Act account key (actions.Refund c)) = Ask account c.payment ∷ []
 ask_of (today, kinds.Auto c) = Ask c.account (auto_key c.invoice today) ∷ []
 ask_of (today, _) = []
 
@@ -26,6 +27,6 @@ check_of command = Check (account_of command) ∷ []
 abbrev pub work_of : Entry → List Work
 work_of entry = ask_of entry ++ check_of entry.1
 
-of_a_bill : work_of (march 1, kinds.Bill (record { account = codes "a1"; key = codes "k1"; day = None }))
+of_a_bill : work_of (march 1, kinds.Act (codes "a1") (codes "k1") (actions.Bill (record { day = None })))
     ≡ Check (codes "a1") ∷ []
 of_a_bill = refl

@@ -13,7 +13,7 @@ use crate::lane::Lane;
 use crate::tally::Tally;
 use kb_base::NoMemory;
 use kb_book::{LaneReply, Step};
-use kb_codec::{Bill, Command};
+use kb_codec::{Action, Bill, Command};
 use kb_days::{Day, Name, text};
 use kb_disk::Disk;
 use kb_gateway::Gateway;
@@ -95,11 +95,11 @@ fn give_bill<D: Disk, G: Gateway + Drop>(
     ensures well { GoesWell D.honest D.moment D.left_since lane.old.log lane.new.log }
     ensures itself { StaysItself D.honest D.fault_count lane.old lane.new }
 {
-    let command = Command::Bill(Bill {
+    let command = Command::Act {
         account,
         key,
-        day: Some(day),
-    });
+        action: Action::Bill(Bill { day: Some(day) }),
+    };
     lane.perform(alloc, day, &command)
 }
 

@@ -1,13 +1,13 @@
 //! What an accepted command leaves to do.
-ghost use Rattle.std.specs.Prelude.{◌≡◌, IfOk};
+ghost use Rattle.std.specs.Prelude.{◌≡◌, ℕ, List, IfOk};
 ghost use Rattle.std.specs.Option.{option_to_list};
 ghost use Rattle.kb_lane.specs.Outbox.{ask_of, check_of};
 
 use crate::work::Work;
 use kb_account::auto_key;
 use kb_base::NoMemory;
-use kb_codec::Command;
-use kb_days::Day;
+use kb_codec::{Action, Command};
+use kb_days::{Day, Name};
 use kb_machine::account_of;
 use std::alloc::Global;
 
@@ -16,13 +16,28 @@ pub fn ask_of(alloc: Global, today: Day, command: &Command) -> Result<Option<Wor
     ensures { IfOk result (λ ask. option_to_list ask ≡ ask_of (today, command.now)) }
 {
     match command {
-        Command::Pay(members) => Ok(Some(Work::Ask(members.account, members.payment))),
-        Command::Refund(members) => Ok(Some(Work::Ask(members.account, members.payment))),
+        Command::Act {
+            account,
+            action,
+            ..
+        } => Ok(asked_by(*account, action)),
         Command::Auto(members) => {
             let key = auto_key(alloc, members.invoice.number(), today)?;
             Ok(Some(Work::Ask(members.account, key)))
         }
         _ => Ok(None),
+    }
+}
+
+/// The payment of an action on an account.
+fn asked_by(account: Name, action: &Action) -> Option<Work>
+    ensures { (today : ℕ) (key : List ℕ) → option_to_list result
+        ≡ ask_of (today, Command.Act account key action.now) }
+{
+    match action {
+        Action::Pay(pay) => Some(Work::Ask(account, pay.payment)),
+        Action::Refund(refund) => Some(Work::Ask(account, refund.payment)),
+        _ => None,
     }
 }
 

@@ -7,6 +7,8 @@ use Rattle.kb_days.specs.Calendar.{first_day, charged_days}
 use Rattle.kb_days.specs.Dates.{march}
 use Rattle.kb_codec.specs.declared.command.Command.{Command}
 use Rattle.kb_codec.specs.declared.command.Command.TheVariants as kinds
+use Rattle.kb_codec.specs.declared.action.Action.TheVariants as actions
+use Rattle.kb_codec.specs.declared.action.OpenAccount.{OpenAccount}
 use Rattle.kb_codec.specs.Senders.{account_of, is_text, is_callers}
 use Rattle.kb_book.specs.declared.answer.Answer.{Answer}
 use Rattle.kb_book.specs.declared.refusal.Refusal.{Refusal}
@@ -66,9 +68,14 @@ opened_judged machine today command =
     (of_outcome (accepted_over machine.texts.world (opening_book command) today command first_day
     charged_days))
 
+-- the command that opens an account, under a request key
+abbrev pub opening : List ℕ → List ℕ → OpenAccount → Command
+opening account key c = kinds.Act account key (actions.OpenAccount c)
+
 -- what a command comes to on an account that isn't there: it may be opened
 abbrev pub absent_judged : MachineValue → ℕ → Command → Judged Answer BookValue
-absent_judged machine today (kinds.OpenAccount c) = opened_judged machine today (kinds.OpenAccount c)
+absent_judged machine today (kinds.Act account key (actions.OpenAccount c)) =
+    opened_judged machine today (opening account key c)
 absent_judged machine today _ = Refused NoAccount
 
 -- what a command comes to on its account
@@ -100,7 +107,7 @@ reply_of (Again reply) = reply
 reply_of (Refused refusal) = replies.Refused refusal
 
 no_such_account : reply_of (judged no_machine (march 10)
-    (kinds.Bill (record { account = codes "a1"; key = codes "k1"; day = None })))
+    (kinds.Act (codes "a1") (codes "k1") (actions.Bill (record { day = None }))))
     ≡ replies.Refused NoAccount
 unfolding judged
 no_such_account = refl

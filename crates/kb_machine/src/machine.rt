@@ -5,6 +5,7 @@ ghost use Rattle.kb_book.specs.Rows.{IsUnprepared};
 ghost use Rattle.kb_book.specs.declared.reply.LaneReply.TheVariants as replies;
 ghost use Rattle.kb_book.specs.BilledBooks.{IsBilled};
 ghost use Rattle.kb_account.specs.Issues.{IsSettlement};
+ghost use Rattle.kb_account.specs.Prepares.{is_opening};
 ghost use Rattle.kb_machine.specs.Judged.{New, refusal_in, lifted};
 ghost use Rattle.kb_machine.specs.Machines.{MachineValue, no_machine, judged, account_judged};
 ghost use Rattle.kb_machine.specs.Machines.{book_of, with_book, book_judged};
@@ -21,7 +22,7 @@ use kb_account::{Book, Prepared, World};
 use kb_base::NoMemory;
 use kb_book::{LaneReply, Refusal, Unprepared};
 use kb_catalog::Catalog;
-use kb_codec::Command;
+use kb_codec::{Action, Command};
 use kb_days::{Day, Name};
 use kb_overdue::Config;
 use kb_sharing::SharedMap;
@@ -263,9 +264,9 @@ impl Machine {
         ensures refused { IfErr result (IsUnprepared (refusal_in
             (account_judged self.now today command.now))) }
     {
-        let Command::OpenAccount(_) = command else {
+        if !is_opening(command) {
             return Err(Unprepared::Refused(Refusal::NoAccount));
-        };
+        }
         if self.books.len() >= MAX_ACCOUNTS {
             return Err(Unprepared::Refused(Refusal::Limit {
                 which: 1,
@@ -294,6 +295,19 @@ impl Machine {
             Command::OverdueRules(text) => self.plan_overdue(alloc, command, text),
             _ => unreachable!(),
         }
+    }
+}
+
+/// Whether a command opens an account.
+fn is_opening(command: &Command) -> bool
+    ensures { result ≡ is_opening command.now }
+{
+    match command {
+        Command::Act { action, .. } => match action {
+            Action::OpenAccount(_) => true,
+            _ => false,
+        },
+        _ => false,
     }
 }
 

@@ -6,7 +6,9 @@ ghost use Rattle.kb_codec.specs.Commands.{IsAmount};
 
 use crate::days::days_before;
 use crate::names::{account_name, named};
-use kb_codec::{Amount, Bill, Change, Charge, Command, Create, Credit, OpenAccount, Pause, Resume};
+use kb_codec::{
+    Action, Amount, Bill, Change, Charge, Command, Create, Credit, OpenAccount, Pause, Resume,
+};
 use kb_days::{Bcd, Day, Name, Period};
 use kb_money::Currency;
 
@@ -14,29 +16,33 @@ use kb_money::Currency;
 pub(crate) fn opening(account: u32, key: Name, first: u32) -> Command
     ensures { result ≡ opening account first key }
 {
-    Command::OpenAccount(OpenAccount {
+    Command::Act {
         account: account_name(account),
         key,
-        currency: Currency::new(b"USD").unwrap(),
-        bcd: Bcd::new(first % 28 + 1).unwrap(),
-        autopay: true,
-    })
+        action: Action::OpenAccount(OpenAccount {
+            currency: Currency::new(b"USD").unwrap(),
+            bcd: Bcd::new(first % 28 + 1).unwrap(),
+            autopay: true,
+        }),
+    }
 }
 
 /// Begins the account's subscription on a day.
 pub(crate) fn creation(account: u32, key: Name, day: Day) -> Command
     ensures { result ≡ creation account day key }
 {
-    Command::Create(Create {
+    Command::Act {
         account: account_name(account),
         key,
-        bundle: named(b"b1"),
-        subscription: named(b"s1"),
-        product: named(b"Basic"),
-        period: Period::Monthly,
-        list: named(b"DEFAULT"),
-        day: Some(day),
-    })
+        action: Action::Create(Create {
+            bundle: named(b"b1"),
+            subscription: named(b"s1"),
+            product: named(b"Basic"),
+            period: Period::Monthly,
+            list: named(b"DEFAULT"),
+            day: Some(day),
+        }),
+    }
 }
 
 /// What a month's draw chooses by its number; none from 6 on. The day is the first of the month.
@@ -61,39 +67,45 @@ pub(crate) fn choice(number: u32, account: u32, key: Name, day: Day) -> Option<C
 fn pause(account: u32, key: Name, day: Day) -> Command
     ensures { result ≡ pause account day key }
 {
-    Command::Pause(Pause {
+    Command::Act {
         account: account_name(account),
         key,
-        bundle: named(b"b1"),
-        day: Some(day),
-    })
+        action: Action::Pause(Pause {
+            bundle: named(b"b1"),
+            day: Some(day),
+        }),
+    }
 }
 
 /// Resumes the account's bundle on a day.
 fn resumption(account: u32, key: Name, day: Day) -> Command
     ensures { result ≡ resumption account day key }
 {
-    Command::Resume(Resume {
+    Command::Act {
         account: account_name(account),
         key,
-        bundle: named(b"b1"),
-        day: Some(day),
-    })
+        action: Action::Resume(Resume {
+            bundle: named(b"b1"),
+            day: Some(day),
+        }),
+    }
 }
 
 /// Changes the account's subscription to a product on a day.
 fn change(account: u32, key: Name, product: Name, day: Day) -> Command
     ensures { result ≡ change account product day key }
 {
-    Command::Change(Change {
+    Command::Act {
         account: account_name(account),
         key,
-        subscription: named(b"s1"),
-        product,
-        period: Period::Monthly,
-        list: named(b"DEFAULT"),
-        day: Some(day),
-    })
+        action: Action::Change(Change {
+            subscription: named(b"s1"),
+            product,
+            period: Period::Monthly,
+            list: named(b"DEFAULT"),
+            day: Some(day),
+        }),
+    }
 }
 
 /// Charges an amount.
@@ -101,11 +113,13 @@ fn charge(account: u32, key: Name, amount: u64) -> Command
     requires { IsAmount amount }
     ensures { result ≡ charge account amount key }
 {
-    Command::Charge(Charge {
+    Command::Act {
         account: account_name(account),
         key,
-        amount: Amount::new(amount).unwrap(),
-    })
+        action: Action::Charge(Charge {
+            amount: Amount::new(amount).unwrap(),
+        }),
+    }
 }
 
 /// Credits an amount.
@@ -113,20 +127,22 @@ fn credit(account: u32, key: Name, amount: u64) -> Command
     requires { IsAmount amount }
     ensures { result ≡ credit account amount key }
 {
-    Command::Credit(Credit {
+    Command::Act {
         account: account_name(account),
         key,
-        amount: Amount::new(amount).unwrap(),
-    })
+        action: Action::Credit(Credit {
+            amount: Amount::new(amount).unwrap(),
+        }),
+    }
 }
 
 /// Bills the account up to a day.
 pub(crate) fn bill(account: u32, key: Name, day: Day) -> Command
     ensures { result ≡ bill account day key }
 {
-    Command::Bill(Bill {
+    Command::Act {
         account: account_name(account),
         key,
-        day: Some(day),
-    })
+        action: Action::Bill(Bill { day: Some(day) }),
+    }
 }

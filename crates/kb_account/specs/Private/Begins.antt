@@ -4,11 +4,12 @@ use Rattle.std.specs.Prelude.{Option, Some, None}
 use Rattle.std.specs.Arc.{arc_value}
 use Rattle.kb_payment.specs.declared.attempt.Attempt.{Attempt}
 use Rattle.kb_payment.specs.PaymentSums.{PaymentsValue, Moves, attempt_of}
+use Rattle.kb_codec.specs.declared.action.Action.{Action}
 use Rattle.kb_codec.specs.declared.command.Command.{Command}
 use Rattle.kb_book.specs.declared.refusal.Refusal.{Refusal}
 use Rattle.kb_book.specs.Worlds.{WorldValue}
 use Rattle.kb_book.specs.Rows.{first_refusal}
-use Rattle.kb_book.specs.Refusals.{own_rows}
+use Rattle.kb_book.specs.Commands.{action_rows, own_rows, acted, action_bills, moved_to}
 use Rattle.kb_tree.specs.Issues.{SubscriptionItems, no_items}
 use Rattle.kb_book.specs.Books.{BookValue}
 use Rattle.kb_account.specs.declared.begun.Begun.{Begun}
@@ -43,7 +44,16 @@ pub record IsBegun (book : BookValue) (begun : Begun) : Type 0 where
   pub moved : HasMoved book.payments (arc_value begun.payments) begun.moved
   pub there : begun.moved.invoice ≤ length book.invoices.rows
 
--- the first of a command's own refusals
+-- a book with an action's own edit, and its billed date
+abbrev pub action_begun : WorldValue → BookValue → ℕ → Action → BookValue
+action_begun world book today action = record (acted world book today action) {
+  billed = moved_to book.billed (action_bills today action);
+}
+
+-- the first of an action's own refusals, and of a command's
+abbrev pub action_refusal : WorldValue → BookValue → ℕ → Action → Option Refusal
+action_refusal world book today action = first_refusal (action_rows world book today action)
+
 abbrev pub own_refusal : WorldValue → BookValue → ℕ → Command → Option Refusal
 own_refusal world book today command = first_refusal (own_rows world book today command)
 

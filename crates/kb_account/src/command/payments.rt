@@ -2,11 +2,13 @@
 ghost use Rattle.std.specs.Prelude.{◌≡◌, ◌<◌, ◌^◌, pos, true, None, Some, OnOk, IfOk, IfErr};
 ghost use Rattle.kb_book.specs.Rows.{IsUnprepared};
 ghost use Rattle.kb_payment.specs.PaymentEdits.{purchased};
-ghost use Rattle.kb_book.specs.Edits.{begun, auto_key};
+ghost use Rattle.kb_book.specs.Edits.{auto_key};
+ghost use Rattle.kb_book.specs.Commands.{begun};
 ghost use Rattle.kb_book.specs.Inner.{invoice_due};
 ghost use Rattle.kb_book.specs.PaymentRows.{balance_at};
 ghost use Rattle.kb_account.specs.Private.States.{value_of};
-ghost use Rattle.kb_account.specs.Private.Begins.{begun_of, own_refusal, invoice_of, HasMoved, IsBegun};
+ghost use Rattle.kb_account.specs.Private.Begins.{begun_of, action_begun, own_refusal, invoice_of};
+ghost use Rattle.kb_account.specs.Private.Begins.{action_refusal, HasMoved, IsBegun};
 ghost use Rattle.kb_book.specs.SoundBooks.{IsBook};
 
 use crate::begun::{Begun, Move, move_on};
@@ -14,7 +16,7 @@ use crate::due::auto_key;
 use crate::state::State;
 use crate::world::World;
 use kb_book::{Refusal, Unprepared};
-use kb_codec::{Auto, Chargeback, Command, InvoiceNo, Pay, Refund, Settle};
+use kb_codec::{Action, Auto, Chargeback, Command, InvoiceNo, Pay, Refund, Settle};
 use kb_days::{Day, Name};
 use kb_edits as edits;
 use kb_payment::{Attempt, Payments};
@@ -36,13 +38,13 @@ impl State {
         pay: &Pay,
     ) -> Result<Begun, Unprepared>
         requires sound { IsBook (value_of self.now) }
-        ensures accepted { OnOk result (own_refusal world.now (value_of self.now) today
-            (Command.Pay pay.now) ≡ None) }
+        ensures accepted { OnOk result (action_refusal world.now (value_of self.now) today
+            (Action.Pay pay.now) ≡ None) }
         ensures begun { IfOk result (λ edit. begun_of (value_of self.now) edit
-            ≡ begun world.now (value_of self.now) today (Command.Pay pay.now)) }
+            ≡ action_begun world.now (value_of self.now) today (Action.Pay pay.now)) }
         ensures sound { IfOk result (λ edit. IsBegun (value_of self.now) edit) }
-        ensures refused { IfErr result (IsUnprepared (own_refusal world.now (value_of self.now) today
-            (Command.Pay pay.now))) }
+        ensures refused { IfErr result (IsUnprepared (action_refusal world.now (value_of self.now) today
+            (Action.Pay pay.now))) }
     {
         let payments = edits::pay(alloc, &self.payments, &self.invoices, today, pay)?;
         Ok(self.with_payments(alloc, payments, NOTHING)?)
@@ -57,13 +59,13 @@ impl State {
         refund: &Refund,
     ) -> Result<Begun, Unprepared>
         requires sound { IsBook (value_of self.now) }
-        ensures accepted { OnOk result (own_refusal world.now (value_of self.now) today
-            (Command.Refund refund.now) ≡ None) }
+        ensures accepted { OnOk result (action_refusal world.now (value_of self.now) today
+            (Action.Refund refund.now) ≡ None) }
         ensures begun { IfOk result (λ edit. begun_of (value_of self.now) edit
-            ≡ begun world.now (value_of self.now) today (Command.Refund refund.now)) }
+            ≡ action_begun world.now (value_of self.now) today (Action.Refund refund.now)) }
         ensures sound { IfOk result (λ edit. IsBegun (value_of self.now) edit) }
-        ensures refused { IfErr result (IsUnprepared (own_refusal world.now (value_of self.now) today
-            (Command.Refund refund.now))) }
+        ensures refused { IfErr result (IsUnprepared (action_refusal world.now (value_of self.now) today
+            (Action.Refund refund.now))) }
     {
         let payments = edits::refund(alloc, &self.payments, today, refund)?;
         Ok(self.with_payments(alloc, payments, NOTHING)?)
@@ -78,13 +80,13 @@ impl State {
         chargeback: &Chargeback,
     ) -> Result<Begun, Unprepared>
         requires sound { IsBook (value_of self.now) }
-        ensures accepted { OnOk result (own_refusal world.now (value_of self.now) today
-            (Command.Chargeback chargeback.now) ≡ None) }
+        ensures accepted { OnOk result (action_refusal world.now (value_of self.now) today
+            (Action.Chargeback chargeback.now) ≡ None) }
         ensures begun { IfOk result (λ edit. begun_of (value_of self.now) edit
-            ≡ begun world.now (value_of self.now) today (Command.Chargeback chargeback.now)) }
+            ≡ action_begun world.now (value_of self.now) today (Action.Chargeback chargeback.now)) }
         ensures sound { IfOk result (λ edit. IsBegun (value_of self.now) edit) }
-        ensures refused { IfErr result (IsUnprepared (own_refusal world.now (value_of self.now) today
-            (Command.Chargeback chargeback.now))) }
+        ensures refused { IfErr result (IsUnprepared (action_refusal world.now (value_of self.now) today
+            (Action.Chargeback chargeback.now))) }
     {
         let payments = edits::chargeback(alloc, &self.payments, today, chargeback)?;
         let invoice = self.invoice_of(chargeback.of);

@@ -1,16 +1,15 @@
 //! Starts, changes, cancellations and their end.
 ghost use Rattle.std.specs.Prelude.{◌≡◌, None, OnOk, IfOk, IfErr};
 ghost use Rattle.kb_book.specs.Rows.{IsUnprepared};
-ghost use Rattle.kb_book.specs.Edits.{begun};
 ghost use Rattle.kb_account.specs.Private.States.{value_of};
-ghost use Rattle.kb_account.specs.Private.Begins.{begun_of, own_refusal, IsBegun};
+ghost use Rattle.kb_account.specs.Private.Begins.{begun_of, action_begun, action_refusal, IsBegun};
 ghost use Rattle.kb_book.specs.SoundBooks.{IsBook};
 
 use crate::begun::Begun;
 use crate::state::State;
 use crate::world::World;
 use kb_book::Unprepared;
-use kb_codec::{Cancel, Change, Command, Create, Uncancel};
+use kb_codec::{Action, Cancel, Change, Create, Uncancel};
 use kb_days::Day;
 use kb_edits as edits;
 use std::alloc::Global;
@@ -25,13 +24,13 @@ impl State {
         create: &Create,
     ) -> Result<Begun, Unprepared>
         requires sound { IsBook (value_of self.now) }
-        ensures accepted { OnOk result (own_refusal world.now (value_of self.now) today
-            (Command.Create create.now) ≡ None) }
+        ensures accepted { OnOk result (action_refusal world.now (value_of self.now) today
+            (Action.Create create.now) ≡ None) }
         ensures begun { IfOk result (λ edit. begun_of (value_of self.now) edit
-            ≡ begun world.now (value_of self.now) today (Command.Create create.now)) }
+            ≡ action_begun world.now (value_of self.now) today (Action.Create create.now)) }
         ensures sound { IfOk result (λ edit. IsBegun (value_of self.now) edit) }
-        ensures refused { IfErr result (IsUnprepared (own_refusal world.now (value_of self.now) today
-            (Command.Create create.now))) }
+        ensures refused { IfErr result (IsUnprepared (action_refusal world.now (value_of self.now) today
+            (Action.Create create.now))) }
     {
         match edits::start(alloc, &self.facts(world), today, create) {
             Ok(timeline) => Ok(self.with_timeline(alloc, timeline, true, today)?),
@@ -48,13 +47,13 @@ impl State {
         change: &Change,
     ) -> Result<Begun, Unprepared>
         requires sound { IsBook (value_of self.now) }
-        ensures accepted { OnOk result (own_refusal world.now (value_of self.now) today
-            (Command.Change change.now) ≡ None) }
+        ensures accepted { OnOk result (action_refusal world.now (value_of self.now) today
+            (Action.Change change.now) ≡ None) }
         ensures begun { IfOk result (λ edit. begun_of (value_of self.now) edit
-            ≡ begun world.now (value_of self.now) today (Command.Change change.now)) }
+            ≡ action_begun world.now (value_of self.now) today (Action.Change change.now)) }
         ensures sound { IfOk result (λ edit. IsBegun (value_of self.now) edit) }
-        ensures refused { IfErr result (IsUnprepared (own_refusal world.now (value_of self.now) today
-            (Command.Change change.now))) }
+        ensures refused { IfErr result (IsUnprepared (action_refusal world.now (value_of self.now) today
+            (Action.Change change.now))) }
     {
         let timeline = edits::change(alloc, &self.facts(world), self.billed, today, change)?;
         Ok(self.with_timeline(alloc, timeline, false, today)?)
@@ -69,13 +68,13 @@ impl State {
         cancel: &Cancel,
     ) -> Result<Begun, Unprepared>
         requires sound { IsBook (value_of self.now) }
-        ensures accepted { OnOk result (own_refusal world.now (value_of self.now) today
-            (Command.Cancel cancel.now) ≡ None) }
+        ensures accepted { OnOk result (action_refusal world.now (value_of self.now) today
+            (Action.Cancel cancel.now) ≡ None) }
         ensures begun { IfOk result (λ edit. begun_of (value_of self.now) edit
-            ≡ begun world.now (value_of self.now) today (Command.Cancel cancel.now)) }
+            ≡ action_begun world.now (value_of self.now) today (Action.Cancel cancel.now)) }
         ensures sound { IfOk result (λ edit. IsBegun (value_of self.now) edit) }
-        ensures refused { IfErr result (IsUnprepared (own_refusal world.now (value_of self.now) today
-            (Command.Cancel cancel.now))) }
+        ensures refused { IfErr result (IsUnprepared (action_refusal world.now (value_of self.now) today
+            (Action.Cancel cancel.now))) }
     {
         let timeline = edits::cancel(alloc, &self.facts(world), self.billed, today, cancel)?;
         Ok(self.with_timeline(alloc, timeline, false, today)?)
@@ -90,13 +89,13 @@ impl State {
         uncancel: &Uncancel,
     ) -> Result<Begun, Unprepared>
         requires sound { IsBook (value_of self.now) }
-        ensures accepted { OnOk result (own_refusal world.now (value_of self.now) today
-            (Command.Uncancel uncancel.now) ≡ None) }
+        ensures accepted { OnOk result (action_refusal world.now (value_of self.now) today
+            (Action.Uncancel uncancel.now) ≡ None) }
         ensures begun { IfOk result (λ edit. begun_of (value_of self.now) edit
-            ≡ begun world.now (value_of self.now) today (Command.Uncancel uncancel.now)) }
+            ≡ action_begun world.now (value_of self.now) today (Action.Uncancel uncancel.now)) }
         ensures sound { IfOk result (λ edit. IsBegun (value_of self.now) edit) }
-        ensures refused { IfErr result (IsUnprepared (own_refusal world.now (value_of self.now) today
-            (Command.Uncancel uncancel.now))) }
+        ensures refused { IfErr result (IsUnprepared (action_refusal world.now (value_of self.now) today
+            (Action.Uncancel uncancel.now))) }
     {
         let timeline = edits::uncancel(alloc, &self.facts(world), uncancel)?;
         Ok(self.with_timeline(alloc, timeline, false, today)?)

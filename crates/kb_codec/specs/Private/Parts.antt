@@ -1,6 +1,6 @@
 -- The members of each kind of command, in order, and how the kinds are read.
-use Rattle.std.specs.Prelude.{ℕ, Bool, List, [], ◌∷◌, Option, Some, None, slice_get, length}
-use Rattle.std.specs.Prelude.{◌==◌, if◌then◌else◌}
+use Rattle.std.specs.Prelude.{ℕ, Bool, List, [], ◌∷◌, Option, Some, None, slice_get, length, ◌==◌}
+use Rattle.std.specs.Prelude.{if◌then◌else◌}
 use Rattle.std.specs.Option.{option_and_then}
 use Rattle.kb_days.specs.declared.period.Period.{Period}
 use Rattle.kb_payment.specs.declared.attempt.Status.{Status}
@@ -9,6 +9,8 @@ use Rattle.kb_catalog_text.specs.Texts.{CatalogText, OverdueText}
 use Rattle.kb_codec.specs.declared.scope.BlockScope.{BlockScope}
 use Rattle.kb_codec.specs.declared.command.Command.{Command}
 use Rattle.kb_codec.specs.declared.command.Command.TheVariants as kinds
+use Rattle.kb_codec.specs.declared.action.Action.{Action}
+use Rattle.kb_codec.specs.declared.action.Action.TheVariants as actions
 use Rattle.kb_codec.specs.Reading.{Reader, into, chained}
 use Rattle.kb_codec.specs.MemberKinds.{Member, both, optional, name, currency, bcd, day, invoice, amount}
 use Rattle.kb_codec.specs.MemberKinds.{truth, period, scope, status, flags, catalog, overdue}
@@ -30,184 +32,153 @@ overdue_rules = both name overdue
 abbrev pub overdue_rules_of : List ℕ × OverdueText → Command
 overdue_rules_of m = kinds.OverdueRules (record { key = m.0; text = m.1 })
 
--- the members of kind 3
-abbrev pub open_account : Member (List ℕ × (List ℕ × (List ℕ × (ℕ × Bool))))
-open_account = both name (both name (both currency (both bcd truth)))
+-- an action's members, behind its account and its key
+abbrev pub acting : {A : Type 0} → Member A → Member (List ℕ × (List ℕ × A))
+acting members = both name (both name members)
 
 -- the command of those
-abbrev pub open_account_of : List ℕ × (List ℕ × (List ℕ × (ℕ × Bool))) → Command
-open_account_of m = kinds.OpenAccount (record {
-  account = m.0;
-  key = m.1.0;
-  currency = m.1.1.0;
-  bcd = m.1.1.1.0;
-  autopay = m.1.1.1.1;
-})
+abbrev pub acting_of : {A : Type 0} → (A → Action) → List ℕ × (List ℕ × A) → Command
+acting_of of m = kinds.Act m.0 m.1.0 (of m.1.1)
+
+-- the members of kind 3
+abbrev pub open_account : Member (List ℕ × (ℕ × Bool))
+open_account = both currency (both bcd truth)
+
+-- the action of those
+abbrev pub open_account_of : List ℕ × (ℕ × Bool) → Action
+open_account_of m = actions.OpenAccount (record { currency = m.0; bcd = m.1.0; autopay = m.1.1 })
 
 -- the members of kind 4
-abbrev pub create : Member (List ℕ × (List ℕ × (List ℕ × (List ℕ × (List ℕ × (Period × (List ℕ
-    × Option ℕ)))))))
-create = both name (both name (both name (both name (both name (both period (both name (optional day)))))))
+abbrev pub create : Member (List ℕ × (List ℕ × (List ℕ × (Period × (List ℕ × Option ℕ)))))
+create = both name (both name (both name (both period (both name (optional day)))))
 
--- the command of those
-abbrev pub create_of : List ℕ × (List ℕ × (List ℕ × (List ℕ × (List ℕ × (Period × (List ℕ × Option ℕ))))))
-    → Command
-create_of m = kinds.Create (record {
-  account = m.0;
-  key = m.1.0;
-  bundle = m.1.1.0;
-  subscription = m.1.1.1.0;
-  product = m.1.1.1.1.0;
-  period = m.1.1.1.1.1.0;
-  list = m.1.1.1.1.1.1.0;
-  day = m.1.1.1.1.1.1.1;
+-- the action of those
+abbrev pub create_of : List ℕ × (List ℕ × (List ℕ × (Period × (List ℕ × Option ℕ)))) → Action
+create_of m = actions.Create (record {
+  bundle = m.0;
+  subscription = m.1.0;
+  product = m.1.1.0;
+  period = m.1.1.1.0;
+  list = m.1.1.1.1.0;
+  day = m.1.1.1.1.1;
 })
 
 -- the members of kind 5
-abbrev pub change : Member (List ℕ × (List ℕ × (List ℕ × (List ℕ × (Period × (List ℕ × Option ℕ))))))
-change = both name (both name (both name (both name (both period (both name (optional day))))))
+abbrev pub change : Member (List ℕ × (List ℕ × (Period × (List ℕ × Option ℕ))))
+change = both name (both name (both period (both name (optional day))))
 
--- the command of those
-abbrev pub change_of : List ℕ × (List ℕ × (List ℕ × (List ℕ × (Period × (List ℕ × Option ℕ))))) → Command
-change_of m = kinds.Change (record {
-  account = m.0;
-  key = m.1.0;
-  subscription = m.1.1.0;
-  product = m.1.1.1.0;
-  period = m.1.1.1.1.0;
-  list = m.1.1.1.1.1.0;
-  day = m.1.1.1.1.1.1;
+-- the action of those
+abbrev pub change_of : List ℕ × (List ℕ × (Period × (List ℕ × Option ℕ))) → Action
+change_of m = actions.Change (record {
+  subscription = m.0;
+  product = m.1.0;
+  period = m.1.1.0;
+  list = m.1.1.1.0;
+  day = m.1.1.1.1;
 })
 
 -- the members of kind 6
-abbrev pub cancel : Member (List ℕ × (List ℕ × (List ℕ × Option ℕ)))
-cancel = both name (both name (both name (optional day)))
+abbrev pub cancel : Member (List ℕ × Option ℕ)
+cancel = both name (optional day)
 
--- the command of those
-abbrev pub cancel_of : List ℕ × (List ℕ × (List ℕ × Option ℕ)) → Command
-cancel_of m = kinds.Cancel (record {
-  account = m.0;
-  key = m.1.0;
-  subscription = m.1.1.0;
-  day = m.1.1.1;
-})
+-- the action of those
+abbrev pub cancel_of : List ℕ × Option ℕ → Action
+cancel_of m = actions.Cancel (record { subscription = m.0; day = m.1 })
 
 -- the members of kind 7
-abbrev pub uncancel : Member (List ℕ × (List ℕ × List ℕ))
-uncancel = both name (both name name)
+abbrev pub uncancel : Member (List ℕ)
+uncancel = name
 
--- the command of those
-abbrev pub uncancel_of : List ℕ × (List ℕ × List ℕ) → Command
-uncancel_of m = kinds.Uncancel (record { account = m.0; key = m.1.0; subscription = m.1.1 })
+-- the action of those
+abbrev pub uncancel_of : List ℕ → Action
+uncancel_of m = actions.Uncancel (record { subscription = m })
 
 -- the members of kind 8
-abbrev pub pause : Member (List ℕ × (List ℕ × (List ℕ × Option ℕ)))
-pause = both name (both name (both name (optional day)))
+abbrev pub pause : Member (List ℕ × Option ℕ)
+pause = both name (optional day)
 
--- the command of those
-abbrev pub pause_of : List ℕ × (List ℕ × (List ℕ × Option ℕ)) → Command
-pause_of m = kinds.Pause (record { account = m.0; key = m.1.0; bundle = m.1.1.0; day = m.1.1.1 })
+-- the action of those
+abbrev pub pause_of : List ℕ × Option ℕ → Action
+pause_of m = actions.Pause (record { bundle = m.0; day = m.1 })
 
 -- the members of kind 9
-abbrev pub resume : Member (List ℕ × (List ℕ × (List ℕ × Option ℕ)))
-resume = both name (both name (both name (optional day)))
+abbrev pub resume : Member (List ℕ × Option ℕ)
+resume = both name (optional day)
 
--- the command of those
-abbrev pub resume_of : List ℕ × (List ℕ × (List ℕ × Option ℕ)) → Command
-resume_of m = kinds.Resume (record { account = m.0; key = m.1.0; bundle = m.1.1.0; day = m.1.1.1 })
+-- the action of those
+abbrev pub resume_of : List ℕ × Option ℕ → Action
+resume_of m = actions.Resume (record { bundle = m.0; day = m.1 })
 
 -- the members of kind 10
-abbrev pub block : Member (List ℕ × (List ℕ × (BlockScope × (List ℕ × (List ℕ × (List ℕ × (Option ℕ
-    × Flags)))))))
-block = both name (both name (both scope (both name (both name (both name (both (optional day) flags))))))
+abbrev pub block : Member (BlockScope × (List ℕ × (List ℕ × (List ℕ × (Option ℕ × Flags)))))
+block = both scope (both name (both name (both name (both (optional day) flags))))
 
--- the command of those
-abbrev pub block_of : List ℕ × (List ℕ × (BlockScope × (List ℕ × (List ℕ × (List ℕ × (Option ℕ × Flags))))))
-    → Command
-block_of m = kinds.Block (record {
-  account = m.0;
-  key = m.1.0;
-  scope = m.1.1.0;
-  target = m.1.1.1.0;
-  service = m.1.1.1.1.0;
-  state = m.1.1.1.1.1.0;
-  day = m.1.1.1.1.1.1.0;
-  flags = m.1.1.1.1.1.1.1;
+-- the action of those
+abbrev pub block_of : BlockScope × (List ℕ × (List ℕ × (List ℕ × (Option ℕ × Flags)))) → Action
+block_of m = actions.Block (record {
+  scope = m.0;
+  target = m.1.0;
+  service = m.1.1.0;
+  state = m.1.1.1.0;
+  day = m.1.1.1.1.0;
+  flags = m.1.1.1.1.1;
 })
 
 -- the members of kind 11
-abbrev pub bill : Member (List ℕ × (List ℕ × Option ℕ))
-bill = both name (both name (optional day))
+abbrev pub bill : Member (Option ℕ)
+bill = optional day
 
--- the command of those
-abbrev pub bill_of : List ℕ × (List ℕ × Option ℕ) → Command
-bill_of m = kinds.Bill (record { account = m.0; key = m.1.0; day = m.1.1 })
+-- the action of those
+abbrev pub bill_of : Option ℕ → Action
+bill_of m = actions.Bill (record { day = m })
 
 -- the members of kind 12
-abbrev pub charge : Member (List ℕ × (List ℕ × ℕ))
-charge = both name (both name amount)
+abbrev pub charge : Member (ℕ)
+charge = amount
 
--- the command of those
-abbrev pub charge_of : List ℕ × (List ℕ × ℕ) → Command
-charge_of m = kinds.Charge (record { account = m.0; key = m.1.0; amount = m.1.1 })
+-- the action of those
+abbrev pub charge_of : ℕ → Action
+charge_of m = actions.Charge (record { amount = m })
 
 -- the members of kind 13
-abbrev pub credit : Member (List ℕ × (List ℕ × ℕ))
-credit = both name (both name amount)
+abbrev pub credit : Member (ℕ)
+credit = amount
 
--- the command of those
-abbrev pub credit_of : List ℕ × (List ℕ × ℕ) → Command
-credit_of m = kinds.Credit (record { account = m.0; key = m.1.0; amount = m.1.1 })
+-- the action of those
+abbrev pub credit_of : ℕ → Action
+credit_of m = actions.Credit (record { amount = m })
 
 -- the members of kind 14
-abbrev pub pay : Member (List ℕ × (List ℕ × (List ℕ × (ℕ × Option ℕ))))
-pay = both name (both name (both name (both invoice (optional amount))))
+abbrev pub pay : Member (List ℕ × (ℕ × Option ℕ))
+pay = both name (both invoice (optional amount))
 
--- the command of those
-abbrev pub pay_of : List ℕ × (List ℕ × (List ℕ × (ℕ × Option ℕ))) → Command
-pay_of m = kinds.Pay (record {
-  account = m.0;
-  key = m.1.0;
-  payment = m.1.1.0;
-  invoice = m.1.1.1.0;
-  amount = m.1.1.1.1;
-})
+-- the action of those
+abbrev pub pay_of : List ℕ × (ℕ × Option ℕ) → Action
+pay_of m = actions.Pay (record { payment = m.0; invoice = m.1.0; amount = m.1.1 })
 
 -- the members of kind 15
-abbrev pub refund : Member (List ℕ × (List ℕ × (List ℕ × (List ℕ × ℕ))))
-refund = both name (both name (both name (both name amount)))
+abbrev pub refund : Member (List ℕ × (List ℕ × ℕ))
+refund = both name (both name amount)
 
--- the command of those
-abbrev pub refund_of : List ℕ × (List ℕ × (List ℕ × (List ℕ × ℕ))) → Command
-refund_of m = kinds.Refund (record {
-  account = m.0;
-  key = m.1.0;
-  payment = m.1.1.0;
-  of = m.1.1.1.0;
-  amount = m.1.1.1.1;
-})
+-- the action of those
+abbrev pub refund_of : List ℕ × (List ℕ × ℕ) → Action
+refund_of m = actions.Refund (record { payment = m.0; of = m.1.0; amount = m.1.1 })
 
 -- the members of kind 16
-abbrev pub chargeback : Member (List ℕ × (List ℕ × (List ℕ × (List ℕ × ℕ))))
-chargeback = both name (both name (both name (both name amount)))
+abbrev pub chargeback : Member (List ℕ × (List ℕ × ℕ))
+chargeback = both name (both name amount)
 
--- the command of those
-abbrev pub chargeback_of : List ℕ × (List ℕ × (List ℕ × (List ℕ × ℕ))) → Command
-chargeback_of m = kinds.Chargeback (record {
-  account = m.0;
-  key = m.1.0;
-  payment = m.1.1.0;
-  of = m.1.1.1.0;
-  amount = m.1.1.1.1;
-})
+-- the action of those
+abbrev pub chargeback_of : List ℕ × (List ℕ × ℕ) → Action
+chargeback_of m = actions.Chargeback (record { payment = m.0; of = m.1.0; amount = m.1.1 })
 
 -- the members of kind 17
-abbrev pub autopay : Member (List ℕ × (List ℕ × Bool))
-autopay = both name (both name truth)
+abbrev pub autopay : Member (Bool)
+autopay = truth
 
--- the command of those
-abbrev pub autopay_of : List ℕ × (List ℕ × Bool) → Command
-autopay_of m = kinds.Autopay (record { account = m.0; key = m.1.0; on = m.1.1 })
+-- the action of those
+abbrev pub autopay_of : Bool → Action
+autopay_of m = actions.Autopay (record { on = m })
 
 -- the members of kind 18
 abbrev pub auto_pay : Member (List ℕ × ℕ)
@@ -233,15 +204,31 @@ overdue_state = name
 abbrev pub overdue_state_of : List ℕ → Command
 overdue_state_of m = kinds.Overdue (record { account = m })
 
+-- how an action of a kind is read, with its account and its key
+abbrev pub acts : {A : Type 0} → (A → Action) → Member A → Reader Command
+acts of members = into (acting_of of) (acting members).read
+
 -- how the members of each kind are read, from kind 0, which there isn't
 abbrev pub readers : List (Reader Command)
 readers = (λ bytes. None) ∷ into catalog_text_of catalog_text.read ∷ into overdue_rules_of
-    overdue_rules.read ∷ into open_account_of open_account.read ∷ into create_of create.read ∷ into
-    change_of change.read ∷ into cancel_of cancel.read ∷ into uncancel_of uncancel.read ∷ into pause_of
-    pause.read ∷ into resume_of resume.read ∷ into block_of block.read ∷ into bill_of bill.read ∷ into
-    charge_of charge.read ∷ into credit_of credit.read ∷ into pay_of pay.read ∷ into refund_of refund.read
-    ∷ into chargeback_of chargeback.read ∷ into autopay_of autopay.read ∷ into auto_pay_of auto_pay.read ∷
-    into settle_of settle.read ∷ into overdue_state_of overdue_state.read ∷ []
+    overdue_rules.read
+    ∷ acts open_account_of open_account
+    ∷ acts create_of create
+    ∷ acts change_of change
+    ∷ acts cancel_of cancel
+    ∷ acts uncancel_of uncancel
+    ∷ acts pause_of pause
+    ∷ acts resume_of resume
+    ∷ acts block_of block
+    ∷ acts bill_of bill
+    ∷ acts charge_of charge
+    ∷ acts credit_of credit
+    ∷ acts pay_of pay
+    ∷ acts refund_of refund
+    ∷ acts chargeback_of chargeback
+    ∷ acts autopay_of autopay
+    ∷ into auto_pay_of auto_pay.read ∷ into settle_of settle.read ∷ into overdue_state_of
+    overdue_state.read ∷ []
 
 -- a command, from its kind on
 unfoldable pub command_in : Reader Command

@@ -1,7 +1,7 @@
 //! What is read is what the bytes say, member by member.
 
 use crate::codec::bytes::read;
-use kb_codec::{BlockScope, Command};
+use kb_codec::{Action, BlockScope, Command};
 use kb_days::Period;
 use std::test::Fail;
 
@@ -15,9 +15,13 @@ fn a_creation(rt: HostRuntime) -> Result<(), Fail> {
 
 fn is_creation(command: &Command) -> bool {
     match command {
-        Command::Create(create) => {
-            create.account.as_str() == "a1"
-                && create.key.as_str() == "k1"
+        Command::Act {
+            account,
+            key,
+            action: Action::Create(create),
+        } => {
+            account.as_str() == "a1"
+                && key.as_str() == "k1"
                 && create.bundle.as_str() == "b1"
                 && create.subscription.as_str() == "s1"
                 && create.product.as_str() == "Basic"
@@ -39,7 +43,10 @@ fn a_block(rt: HostRuntime) -> Result<(), Fail> {
 
 fn is_block(command: &Command) -> bool {
     match command {
-        Command::Block(block) => {
+        Command::Act {
+            action: Action::Block(block),
+            ..
+        } => {
             matches!(block.scope, BlockScope::Subscription)
                 && block.target.as_str() == "s1"
                 && block.service.as_str() == "svc"
@@ -63,7 +70,10 @@ fn a_payment(rt: HostRuntime) -> Result<(), Fail> {
 
 fn is_payment(command: &Command) -> bool {
     match command {
-        Command::Pay(pay) => {
+        Command::Act {
+            action: Action::Pay(pay),
+            ..
+        } => {
             pay.payment.as_str() == "p1"
                 && pay.invoice.number() == 4_294_967_295
                 && pay.amount.map_or(0, |amount| amount.units()) == 1000

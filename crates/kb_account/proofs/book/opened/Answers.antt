@@ -11,7 +11,8 @@ returns c =
     let asked = c.args.asked.now in
     let is = c.requires.opening in
     let answer = c.first_answer-answer.result in
-    let made = opened-is c.args.command.now asked (arc_value c.in_ok-timeline.timeline)
+    let made = opened-is c.args.command.now c.args.account c.args.key asked
+    (arc_value c.in_ok-timeline.timeline)
     (arc_value c.in_ok-blocks.blocks)
     (arc_value c.in_ok-payments.payments) c.new-invoices.result (arc_value c.in_ok-charges.charges).items
     (entries c.in_ok-kept.kept) answer
@@ -21,15 +22,16 @@ returns c =
     (rw c.in_ok-charges.ensures.ok c.new-no_charges.ensures.items)
     c.in_ok-kept.ensures c.first_answer-answer.ensures in
     record {
-      first = opened-command c.args.command.now asked is _ answer made;
-      billed = opened-days c.args.command.now asked is _ answer made;
-      even = opened-credit c.args.command.now asked is _ answer made;
+      first = opened-command c.args.command.now c.args.account c.args.key asked is _ answer made;
+      billed = opened-days c.args.command.now c.args.account c.args.key asked is _ answer made;
+      even = opened-credit c.args.command.now c.args.account c.args.key asked is _ answer made;
     }
 
 pub invariant_of-result : goal.invariant_of-result
 invariant_of-result c =
     let answer = c.first_answer-answer.result in
-    let made = opened-is c.args.command.now c.args.asked.now (arc_value c.in_ok-timeline.timeline)
+    let made = opened-is c.args.command.now c.args.account c.args.key c.args.asked.now
+    (arc_value c.in_ok-timeline.timeline)
     (arc_value c.in_ok-blocks.blocks) (arc_value c.in_ok-payments.payments) c.new-invoices.result
     (arc_value c.in_ok-charges.charges).items (entries c.in_ok-kept.kept) answer c.requires.opening
     (c.in_ok-timeline.ensures.ok ∙ c.new-no_timeline.ensures)
@@ -37,4 +39,4 @@ invariant_of-result c =
     (c.in_ok-payments.ensures.ok ∙ c.new-no_payments.ensures) c.new-invoices.ensures
     (rw c.in_ok-charges.ensures.ok c.new-no_charges.ensures.items)
     c.in_ok-kept.ensures c.first_answer-answer.ensures in
-    opened-sound_book c.args.asked.now _ answer made
+    opened-sound_book c.args.account c.args.key c.args.asked.now _ answer made

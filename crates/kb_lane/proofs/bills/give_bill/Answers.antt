@@ -1,5 +1,6 @@
 use Rattle.std.proofs.Common.{Some}
 use Rattle.kb_codec.specs.declared.command.Command.TheVariants as kinds
+use Rattle.kb_codec.specs.declared.action.Action.TheVariants as actions
 use Rattle.kb_lane.proofs.Going.{well_performs}
 use Rattle.kb_lane.proofs.bills.give_bill.Goals as goal
 
@@ -7,7 +8,7 @@ pub returns-clause-well : goal.returns-clause-well
 returns-clause-well g c =
     well_performs g.D.Disk.honest g.D.Disk.moment g.D.Disk.left_since g.D.Disk.fault_count c.args.lane.now
     c.perform.new.self c.args.day c.perform.ensures.itself.lanes c.perform.ensures.itself.lane
-    (kinds.Bill (record { account = c.args.account; key = c.args.key; day = Some c.args.day }))
+    (kinds.Act c.args.account c.args.key (actions.Bill (record { day = Some c.args.day })))
     c.perform.result
     (record {
       told = c.perform.ensures.reply;

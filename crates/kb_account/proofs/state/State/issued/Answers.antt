@@ -3,7 +3,8 @@ use Rattle.std.proofs.Common.{◌≡◌, ◌++◌, ◌∙◌, arith}
 use Rattle.std.specs.FinMap.{entries}
 use Rattle.kb_days.specs.Calendar.{first_day, charged_days}
 use Rattle.kb_tree.specs.IssueValues.{issue_of}
-use Rattle.kb_book.specs.Steps.{own_lines, accepted_over}
+use Rattle.kb_book.specs.Steps.{accepted_over}
+use Rattle.kb_book.specs.Commands.{own_lines}
 use Rattle.kb_account.specs.Private.States.{value_of}
 use Rattle.kb_account.specs.Private.Begins.{begun_of}
 use Rattle.kb_account.proofs.BegunNexts.{all-plain, all-few, all-small, all-room}

@@ -1,14 +1,19 @@
--- The blocking states that a pause, its end, a block and a transition leave.
-use Rattle.std.specs.Prelude.{ℕ, true, false, List, [], ◌∷◌, ◌++◌, codes, Option, Some, None, option_map}
+-- A pause, its end and a block: the blocking states that they and a transition leave, and their refusals in
+-- order.
+use Rattle.std.specs.Prelude.{ℕ, Bool, not, ◌||◌, nat_le, List, [], ◌∷◌, length, codes, bytes_eq, is_some}
+use Rattle.std.specs.Prelude.{true, false, ◌++◌, Option, Some, None, option_map}
 use Rattle.kb_timeline.specs.TimelineEdits.{TimelineValue, bundle_named, subscription_named}
+use Rattle.kb_blocking.specs.declared.state.BlockState.{BlockState}
+use Rattle.kb_blocking.specs.Blocking.{max_states}
+use Rattle.kb_codec.specs.declared.action.Block.{Block}
+use Rattle.kb_codec.specs.declared.scope.BlockScope.{BlockScope}
+use Rattle.kb_codec.specs.declared.scope.BlockScope.TheVariants as scopes
+use Rattle.kb_book.specs.declared.refusal.Refusal.TheVariants as refusal
+use Rattle.kb_book.specs.Rows.{Rows, limit}
 use Rattle.kb_blocking.specs.declared.state.Scope.{Scope}
 use Rattle.kb_blocking.specs.declared.state.Scope.TheVariants as scope
 use Rattle.kb_blocking.specs.declared.state.Flags.{Flags}
-use Rattle.kb_blocking.specs.declared.state.BlockState.{BlockState}
 use Rattle.kb_overdue.specs.declared.state.OverdueState.{OverdueState}
-use Rattle.kb_codec.specs.declared.command.Block.{Block}
-use Rattle.kb_codec.specs.declared.scope.BlockScope.{BlockScope}
-use Rattle.kb_codec.specs.declared.scope.BlockScope.TheVariants as scopes
 
 -- a blocking state is accepted after the others
 abbrev pub with_state : List BlockState → BlockState → List BlockState
@@ -94,3 +99,34 @@ transition_state state day = record {
   day = day;
   flags = overdue_flags state;
 }
+
+-- one more blocking state would be one too many
+abbrev pub has_all_states : List BlockState → Bool
+has_all_states blocks = nat_le max_states (length blocks)
+
+-- and is refused for it
+abbrev pub state_rows : List BlockState → Rows
+state_rows blocks = (has_all_states blocks, limit 4 max_states) ∷ []
+
+-- the refusals of a pause, and of its end
+abbrev pub pause_rows : TimelineValue → List BlockState → List ℕ → Rows
+pause_rows timeline blocks bundle =
+    (not (is_some (bundle_named timeline bundle)), refusal.NoSubscription) ∷ state_rows blocks
+
+-- a service that is the platform's own
+abbrev pub is_reserved : List ℕ → Bool
+is_reserved service =
+    bytes_eq service (codes "entitlement-service") || bytes_eq service (codes "overdue-service")
+
+-- the target of a block is there: an account by its name, a bundle or a subscription by its own
+abbrev pub has_target : List ℕ → TimelineValue → BlockScope → List ℕ → Bool
+has_target account timeline scopes.Account target = bytes_eq target account
+has_target account timeline scopes.Bundle target = is_some (bundle_named timeline target)
+has_target account timeline scopes.Subscription target = is_some (subscription_named timeline target)
+
+-- the refusals of a block
+abbrev pub block_rows : List ℕ → TimelineValue → List BlockState → Block → Rows
+block_rows account timeline blocks c =
+    (is_reserved c.service, refusal.BadName)
+    ∷ (not (has_target account timeline c.scope c.target), refusal.NoSubscription)
+    ∷ state_rows blocks
