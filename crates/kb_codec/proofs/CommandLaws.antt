@@ -9,6 +9,7 @@ use Rattle.kb_base.specs.declared.fault.NoMemory.{NoMemory}
 use Rattle.kb_codec.specs.declared.command.Command.{Command}
 use Rattle.kb_codec.specs.CommandBytes.{spelling}
 use Rattle.kb_codec.specs.Commands.{IsCommand}
+use Rattle.kb_codec.specs.SpellingsApart.{NoSpellingBeginsAnother}
 use Rattle.kb_codec.specs.Reading.{byte_in}
 use Rattle.kb_codec.specs.Private.Parts.{readers, command_in, whole, ended}
 use Rattle.kb_codec.proofs.Readers.{IsBytes, IsBytes-rest, byte_some, chained_some, then_some, some_is}
@@ -28,13 +29,18 @@ command_sound bytes command rest fits e =
     let was = sound a.1 command rest (IsBytes-rest a.0 a.1 (subst IsBytes first fits)) b.2 in
     (first ∙ ap (λ (n : ℕ). n ∷ a.1) (sym (zero-add a.0)) ∙ was.spelled, was.allowed)
 
--- no spelling begins another one, and no two commands have one spelling
+-- spellings with bytes behind them are the same only if the commands are, and what stands behind them
 pub spelling-apart : (a b : Command) (x y : List ℕ) → IsCommand a → IsCommand b
     → spelling a ++ x ≡ spelling b ++ y → (a ≡ b) × (x ≡ y)
 spelling-apart a b x y is_a is_b e =
     let same : (a, x) ≡ (b, y) = some_is (a, x) (b, y)
     (sym (command_again a x is_a) ∙ ap command_in e ∙ command_again b y is_b) in
     (ap (λ (p : Command × List ℕ). p.0) same, ap (λ (p : Command × List ℕ). p.1) same)
+
+-- a spelling that begins another one is all of it
+pub no_spelling_begins_another : NoSpellingBeginsAnother
+no_spelling_begins_another first second more is_first is_second e =
+    spelling-apart first second more [] is_first is_second (e ∙ sym (append-nil (spelling second)))
 
 -- all of some bytes that are a command are its spelling
 pub whole_sound : (bytes : List ℕ) (command : Command) → IsBytes bytes → whole bytes ≡ Some command

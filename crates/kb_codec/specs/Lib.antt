@@ -7,4 +7,5 @@ pub mod Private
 pub mod Reading
 pub mod Senders
 pub mod SmallReadings
+pub mod SpellingsApart
 pub mod TextReading

@@ -111,7 +111,7 @@ pub struct Cancel {
     pub day: Option<Day>,
 }
 
-/// A cancellation that is still to come is taken back.
+/// The cancellation of a subscription is taken back, whether its day is past or still to come.
 #[derive(Drop)]
 pub struct Uncancel {
     pub subscription: Name,
@@ -125,7 +125,7 @@ pub struct Pause {
     pub day: Option<Day>,
 }
 
-/// A paused bundle is resumed.
+/// A bundle is resumed, whether or not it is paused.
 #[derive(Drop)]
 pub struct Resume {
     pub bundle: Name,
@@ -166,13 +166,14 @@ pub struct Credit {
     pub amount: Amount,
 }
 
-/// A payment on an invoice is attempted: of an amount, or of all that is unpaid.
+/// A payment on an invoice is attempted: of an amount, or else of what is unpaid of the invoice, up to 10^12
+/// minor units.
 #[derive(Drop)]
 pub struct Pay {
     /// The payment key, by which the attempt is known.
     pub payment: Name,
     pub invoice: InvoiceNo,
-    /// None for all that is unpaid.
+    /// None for all that is unpaid of the invoice, or for 10^12 minor units if that is less.
     pub amount: Option<Amount>,
 }
 

@@ -4,6 +4,7 @@ ghost use Rattle.kb_codec.specs.CommandBytes.{spelling};
 ghost use Rattle.kb_codec.specs.Commands.{IsCommand};
 ghost use Rattle.kb_codec.specs.declared.command.Command.{Command as AnyCommand};
 ghost use Rattle.kb_codec.specs.Reading.{Reads};
+ghost use Rattle.kb_codec.specs.SpellingsApart.{NoSpellingBeginsAnother};
 ghost use Rattle.kb_codec.specs.Private.Parts.{command_in, ended, whole};
 
 use crate::command::Command;
@@ -36,6 +37,11 @@ pub fn decode(alloc: Global, bytes: &[u8]) -> Result<Option<Command>, NoMemory>
 {
     read_whole(alloc, bytes)
 }
+
+/// No spelling begins another one, so no length has to stand before a command.
+pub fn no_spelling_begins_another()
+    ensures apart { NoSpellingBeginsAnother }
+{}
 
 /// The command that all of these bytes are.
 #[tactic(auto, unfolding(crate::specs::Private::Parts::whole))]

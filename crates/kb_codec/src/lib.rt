@@ -25,7 +25,7 @@ pub use action::{
     Pause, Pay, Refund, Resume, Uncancel,
 };
 pub use amount::{Amount, MAX_AMOUNT};
-pub use bytes::{decode, encode};
+pub use bytes::{decode, encode, no_spelling_begins_another};
 pub use command::{Auto, Catalog, Command, Overdue, OverdueRules, Settle};
 pub use invoice_no::InvoiceNo;
 pub use scope::BlockScope;
