@@ -1,4 +1,5 @@
 pub mod Balances
 pub mod DueInvoices
 pub mod FoundSubscriptions
+pub mod PayFaults
 pub mod UnpaidNumbers

@@ -1,5 +1,5 @@
 //! A block.
-ghost use Rattle.std.specs.Prelude.{◌≡◌, Some, None, is_some, OnOk, IfOk, IfErr, IfSome};
+ghost use Rattle.std.specs.Prelude.{◌≡◌, Some, None, Err, is_some, OnOk, IfOk, IfErr, IfSome};
 ghost use Rattle.kb_book.specs.Wishes.{asked_day};
 ghost use Rattle.kb_book.specs.Rows.{first_refusal, IsUnprepared};
 ghost use Rattle.kb_book.specs.BlockCommands.{has_target, block_rows};
@@ -30,6 +30,8 @@ pub fn block(
         (asked_day block.now.day today)) }
     ensures refused { IfErr result (IsUnprepared (first_refusal
         (block_rows account timeline.now blocks.now block.now))) }
+    ensures without_memory { IfSome (first_refusal (block_rows account timeline.now blocks.now block.now))
+        (λ refusal. result ≡ Err (Unprepared.Refused refusal)) }
 {
     if is_reserved(block.service) {
         return Err(Unprepared::Refused(Refusal::BadName));

@@ -1,5 +1,6 @@
 //! A cancellation, and its end.
-ghost use Rattle.std.specs.Prelude.{◌≡◌, ◌≤◌, ◌<◌, length, slice_get, Some, None, IfSome, OnOk, IfOk, IfErr};
+ghost use Rattle.std.specs.Prelude.{◌≡◌, ◌≤◌, ◌<◌, length, slice_get, Some, None, Err, IfSome, OnOk, IfOk};
+ghost use Rattle.std.specs.Prelude.{IfErr};
 ghost use Rattle.kb_book.specs.Rows.{first_refusal, IsUnprepared};
 ghost use Rattle.kb_book.specs.SubscriptionCommands as told;
 ghost use Rattle.kb_book.specs.SubscriptionCommands.{of_named, cancel_rows_of, cancel_rows_by};
@@ -112,6 +113,8 @@ pub fn uncancel(alloc: Global, facts: &Facts, uncancel: &Uncancel) -> Result<Tim
         ≡ told.with_uncancel facts.now.timeline uncancel.now) }
     ensures refused { IfErr result (IsUnprepared (first_refusal (of_named facts.now uncancel.now.subscription
         uncancel_rows_of))) }
+    ensures without_memory { IfSome (first_refusal (of_named facts.now uncancel.now.subscription
+        uncancel_rows_of)) (λ refusal. result ≡ Err (Unprepared.Refused refusal)) }
 {
     let Some(sub) = place_of(facts.timeline, uncancel.subscription) else {
         return Err(Unprepared::Refused(Refusal::NoSubscription));

@@ -1,5 +1,5 @@
 //! A pause, and its end.
-ghost use Rattle.std.specs.Prelude.{◌≡◌, Some, None, OnOk, IfOk, IfErr};
+ghost use Rattle.std.specs.Prelude.{◌≡◌, Some, None, Err, OnOk, IfOk, IfErr, IfSome};
 ghost use Rattle.kb_book.specs.Wishes.{asked_day};
 ghost use Rattle.kb_timeline.specs.TimelineEdits.{bundle_named};
 ghost use Rattle.kb_book.specs.Rows.{first_refusal, IsUnprepared};
@@ -30,6 +30,8 @@ pub fn pause(
         (asked_day pause.now.day today)) }
     ensures refused { IfErr result (IsUnprepared (first_refusal
         (pause_rows timeline.now blocks.now pause.now.bundle))) }
+    ensures without_memory { IfSome (first_refusal (pause_rows timeline.now blocks.now pause.now.bundle))
+        (λ refusal. result ≡ Err (Unprepared.Refused refusal)) }
 {
     let day = asked_day(pause.day, today);
     let flags = Flags {
@@ -41,7 +43,8 @@ pub fn pause(
     with_entitlement(alloc, timeline, blocks, pause.bundle, state, day, flags)
 }
 
-/// The blocking states with the end of a pause of a bundle. It is refused as a pause is.
+/// The blocking states with a state of a bundle that blocks nothing, whether or not the bundle is paused. It
+/// is refused as a pause is.
 pub fn resume(
     alloc: Global,
     timeline: &Timeline,
@@ -55,6 +58,8 @@ pub fn resume(
         (asked_day resume.now.day today)) }
     ensures refused { IfErr result (IsUnprepared (first_refusal
         (pause_rows timeline.now blocks.now resume.now.bundle))) }
+    ensures without_memory { IfSome (first_refusal (pause_rows timeline.now blocks.now resume.now.bundle))
+        (λ refusal. result ≡ Err (Unprepared.Refused refusal)) }
 {
     let day = asked_day(resume.day, today);
     let flags = Flags {
@@ -81,6 +86,8 @@ fn with_entitlement(
         ≡ told.with_entitlement blocks.now (bundle_named timeline.now bundle) state day flags) }
     ensures refused { IfErr result (IsUnprepared (first_refusal
         (pause_rows timeline.now blocks.now bundle))) }
+    ensures without_memory { IfSome (first_refusal (pause_rows timeline.now blocks.now bundle))
+        (λ refusal. result ≡ Err (Unprepared.Refused refusal)) }
 {
     let Some(place) = timeline.find_bundle(bundle) else {
         return Err(Unprepared::Refused(Refusal::NoSubscription));

@@ -1,6 +1,6 @@
 //! Payments, refunds and chargebacks.
 ghost use Rattle.std.specs.Prelude.{◌≡◌, ◌≤ℤ◌, pos, true, false, All, Some, None, option_map, OnOk, IfOk};
-ghost use Rattle.std.specs.Prelude.{IfErr, IfSome};
+ghost use Rattle.std.specs.Prelude.{Err, IfErr, IfSome};
 ghost use Rattle.kb_credit.specs.InvoiceRows.{numbered, balance_of};
 ghost use Rattle.kb_payment.specs.PaymentSums.{attempt_of};
 ghost use Rattle.kb_payment.specs.PaymentEdits as told;
@@ -16,8 +16,10 @@ use kb_days::{Day, Name};
 use kb_payment::{PayFault, Payments};
 use std::alloc::Global;
 
-/// The payments with a purchase more. It is refused, in this order, as `BadName` if the payment key is the
+/// The payments with a purchase more: of the amount that is asked for, or else of what is unpaid of the
+/// invoice, up to 10^12 minor units. It is refused, in this order, as `BadName` if the payment key is the
 /// platform's own, as `KeyReused`, `NoInvoice`, `NothingDue`, `AttemptOpen` and `AmountTooLarge`.
+#[tactic(auto, using(crate::proofs::PayFaults::pay_faults))]
 pub fn pay(
     alloc: Global,
     payments: &Payments,
@@ -32,6 +34,8 @@ pub fn pay(
         (balance_at invoices.now pay.now.invoice) pay.now.amount today false) }
     ensures refused { IfErr result (IsUnprepared (first_refusal
         (pay_rows payments.now invoices.now pay.now))) }
+    ensures without_memory { IfSome (first_refusal (pay_rows payments.now invoices.now pay.now))
+        (λ refusal. result ≡ Err (Unprepared.Refused refusal)) }
 {
     if is_own_key(pay.payment) {
         return Err(Unprepared::Refused(Refusal::BadName));
@@ -79,6 +83,7 @@ pub fn pay_automatically(
 
 /// The payments with a refund more. It is refused, in this order, as `BadName` if the payment key is the
 /// platform's own, as `KeyReused`, `NoPayment`, `PaymentState` and `AmountTooLarge`.
+#[tactic(auto, using(crate::proofs::PayFaults::pay_faults))]
 pub fn refund(
     alloc: Global,
     payments: &Payments,
@@ -91,6 +96,8 @@ pub fn refund(
         ≡ told.refunded payments.now refund.now.payment refund.now.of refund.now.amount today) }
     ensures refused { IfErr result (IsUnprepared (first_refusal
         (give_back_rows payments.now refund.now.payment refund.now.of refund.now.amount))) }
+    ensures without_memory { IfSome (first_refusal (give_back_rows payments.now refund.now.payment
+        refund.now.of refund.now.amount)) (λ refusal. result ≡ Err (Unprepared.Refused refusal)) }
 {
     if is_own_key(refund.payment) {
         return Err(Unprepared::Refused(Refusal::BadName));
@@ -107,6 +114,7 @@ pub fn refund(
 }
 
 /// The payments with a chargeback more. It is refused as a refund is.
+#[tactic(auto, using(crate::proofs::PayFaults::pay_faults))]
 pub fn chargeback(
     alloc: Global,
     payments: &Payments,
@@ -121,6 +129,8 @@ pub fn chargeback(
         today) }
     ensures refused { IfErr result (IsUnprepared (first_refusal
         (give_back_rows payments.now chargeback.now.payment chargeback.now.of chargeback.now.amount))) }
+    ensures without_memory { IfSome (first_refusal (give_back_rows payments.now chargeback.now.payment
+        chargeback.now.of chargeback.now.amount)) (λ refusal. result ≡ Err (Unprepared.Refused refusal)) }
 {
     if is_own_key(chargeback.payment) {
         return Err(Unprepared::Refused(Refusal::BadName));

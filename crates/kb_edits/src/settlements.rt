@@ -1,5 +1,5 @@
 //! The settlement of an attempt.
-ghost use Rattle.std.specs.Prelude.{◌≡◌, None, Some, OnOk, IfOk, IfErr};
+ghost use Rattle.std.specs.Prelude.{◌≡◌, None, Some, Err, OnOk, IfOk, IfErr, IfSome};
 ghost use Rattle.kb_payment.specs.PaymentSums.{attempt_of, Moves};
 ghost use Rattle.kb_payment.specs.PaymentEdits as told;
 ghost use Rattle.kb_payment.specs.SoundPayments.{ArePayments};
@@ -33,6 +33,8 @@ pub fn settle(alloc: Global, payments: &Payments, settle: &Settle) -> Result<Set
     ensures sound { IfOk result (λ done. ArePayments payments.now) }
     ensures refused { IfErr result (IsUnprepared (first_refusal
         (settle_rows payments.now settle.now.payment settle.now.status))) }
+    ensures without_memory { IfSome (first_refusal (settle_rows payments.now settle.now.payment
+        settle.now.status)) (λ refusal. result ≡ Err (Unprepared.Refused refusal)) }
 {
     let Some(attempt) = payments.attempt(settle.payment) else {
         return Err(Unprepared::Refused(Refusal::PaymentState));

@@ -1,5 +1,5 @@
 //! A start.
-ghost use Rattle.std.specs.Prelude.{◌≡◌, None, unwrap_or, OnOk, IfOk, IfErr};
+ghost use Rattle.std.specs.Prelude.{◌≡◌, None, Err, unwrap_or, OnOk, IfOk, IfErr, IfSome};
 ghost use Rattle.kb_timeline.specs.TimelineEdits.{bundle_named};
 ghost use Rattle.kb_book.specs.Wishes.{plan_asked};
 ghost use Rattle.kb_book.specs.Anchors.{create_anchor};
@@ -33,6 +33,8 @@ pub fn start(
     ensures accepted { OnOk result (first_refusal (create_rows facts.now today create.now) ≡ None) }
     ensures started { IfOk result (λ timeline. timeline ≡ told.started facts.now today create.now) }
     ensures refused { IfErr result (IsUnprepared (first_refusal (create_rows facts.now today create.now))) }
+    ensures without_memory { IfSome (first_refusal (create_rows facts.now today create.now))
+        (λ refusal. result ≡ Err (Unprepared.Refused refusal)) }
 {
     if let Some(refusal) = start_refusal(facts, today, create) {
         return Err(Unprepared::Refused(refusal));

@@ -1,5 +1,5 @@
 //! A blocking state that is accepted.
-ghost use Rattle.std.specs.Prelude.{◌≡◌, None, OnOk, IfOk, IfErr, option_copied};
+ghost use Rattle.std.specs.Prelude.{◌≡◌, None, Err, OnOk, IfOk, IfErr, IfSome, option_copied};
 ghost use Rattle.kb_book.specs.Rows.{first_refusal, IsUnprepared};
 ghost use Rattle.kb_book.specs.BlockCommands.{state_rows};
 ghost use Rattle.kb_book.specs.BlockCommands as told;
@@ -20,6 +20,8 @@ pub(crate) fn with_state(
     ensures accepted { OnOk result (first_refusal (state_rows blocks.now) ≡ None) }
     ensures added { IfOk result (λ more. more ≡ told.with_state blocks.now state) }
     ensures refused { IfErr result (IsUnprepared (first_refusal (state_rows blocks.now))) }
+    ensures without_memory { IfSome (first_refusal (state_rows blocks.now))
+        (λ refusal. result ≡ Err (Unprepared.Refused refusal)) }
 {
     if MAX_STATES <= blocks.states().len() {
         return Err(Unprepared::Refused(Refusal::Limit {
@@ -45,6 +47,8 @@ pub fn enter_state(
     ensures added { IfOk result (λ more. more
         ≡ told.with_state blocks.now (told.transition_state (option_copied state.entry) day)) }
     ensures refused { IfErr result (IsUnprepared (first_refusal (state_rows blocks.now))) }
+    ensures without_memory { IfSome (first_refusal (state_rows blocks.now))
+        (λ refusal. result ≡ Err (Unprepared.Refused refusal)) }
 {
     with_state(alloc, blocks, transition_state(state, day))
 }
