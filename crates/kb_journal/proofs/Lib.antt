@@ -6,4 +6,5 @@ pub mod Outcomes
 pub mod Parts
 pub mod Told
 pub mod Torn
+pub mod Unharmed
 pub mod Whole

@@ -1,3 +1,4 @@
+pub mod Beginnings
 pub mod Format
 pub mod Keeping
 pub mod Private

@@ -19,8 +19,10 @@
 ghost use Rattle.std.specs.Prelude.{◌≡◌, ◌≤◌, ◌<◌, ◌+◌, ◌↔◌, ℕ, List, [], ◌∷◌, ◌++◌, true, false};
 ghost use Rattle.std.specs.Prelude.{IsTrue, IfOk, IfErr, OnOk, OnErr, IsErrOf, MatchResult, length};
 ghost use Rattle.kb_base.specs.Faults.{Rose};
+ghost use Rattle.kb_disk.specs.Images.{Only};
 ghost use Rattle.kb_disk.specs.Moments.{AtEachMoment};
 ghost use Rattle.kb_journal.specs.declared.fault.AppendFault.TheVariants.{Stopped, Full, DiskFault};
+ghost use Rattle.kb_journal.specs.Beginnings.{HasOrBegins};
 ghost use Rattle.kb_journal.specs.Format.{IsSized, IsWithOrWithout};
 ghost use Rattle.kb_journal.specs.Keeping.{Holds, IsFull, RefusesToCreate, RefusesToLoad, TellsPlace};
 ghost use Rattle.kb_journal.specs.Reading.{IsNoJournal};
@@ -97,6 +99,18 @@ impl<D: Disk> Journal<D> {
         ensures empty { IsTrue (D.honest disk) → OnOk result (D.seen disk ≡ []) }
         ensures refused { IfErr result (λ refused.
             RefusesToCreate D.honest D.seen D.images D.fault_count disk refused.0 refused.1) }
+        ensures same { IsTrue (D.honest disk) → 0 < length (D.seen disk)
+            → IfErr result (λ refused. D.seen refused.1 ≡ D.seen disk) }
+        ensures unwritten { IsTrue (D.honest disk) → 0 < length (D.seen disk) → IfErr result (λ refused.
+            IsUnwritten D.honest D.images D.moment D.left_since D.fault_count disk refused.1) }
+        ensures unharmed { IsTrue (D.honest disk) → Only (D.seen disk) (D.images disk)
+            → IfErr result (λ refused. HasOrBegins lanes lane [] (D.seen disk) (D.seen refused.1)) }
+        ensures moments { IsTrue (D.honest disk) → Only (D.seen disk) (D.images disk)
+            → IfOk result (λ journal. AtEachMoment D.moment D.left_since disk journal.disk
+            (HasOrBegins lanes lane [] (D.seen disk))) }
+        ensures moments_too { IsTrue (D.honest disk) → Only (D.seen disk) (D.images disk)
+            → IfErr result (λ refused. AtEachMoment D.moment D.left_since disk refused.1
+            (HasOrBegins lanes lane [] (D.seen disk))) }
         ensures honesty { IfOk result (λ journal. D.honest journal.disk ≡ D.honest disk) }
         ensures same_honesty { IfErr result (λ refused. D.honest refused.1 ≡ D.honest disk) }
         ensures calm { IfOk result (λ journal. D.fault_count journal.disk ≡ D.fault_count disk) }
@@ -128,6 +142,8 @@ impl<D: Disk> Journal<D> {
         ensures holds { IsTrue (D.honest disk) → IfOk result (λ loaded.
             Holds D.honest D.seen D.images loaded.0 loaded.1) }
         ensures seen { IsTrue (D.honest disk) → IfOk result (λ loaded. D.seen loaded.0.disk ≡ D.seen disk) }
+        ensures seen_too { IsTrue (D.honest disk) → Only (D.seen disk) (D.images disk)
+            → IfErr result (λ refused. D.seen refused.1 ≡ D.seen disk) }
         ensures made { IfOk result (λ loaded. loaded.0 ≡ record loaded.0 {
           lane = lane;
           count = length loaded.1;
