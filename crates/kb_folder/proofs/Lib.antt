@@ -13,4 +13,5 @@ mod Returned
 mod Rooms
 mod Served
 pub mod Unchanged
+mod Unharmed
 mod Unloaded

@@ -1,7 +1,8 @@
 -- How the lanes of a folder are made, each with the same two texts.
-use Rattle.std.specs.Prelude.{ℕ, ◌≡◌, ◌<◌, false, List, [], ◌∷◌, length, take, codes}
+use Rattle.std.specs.Prelude.{ℕ, ◌≡◌, ◌<◌, ◌+◌, ◌⊎◌, false, List, [], ◌∷◌, length, take, codes}
 use Rattle.std.specs.Prelude.{Option, Some, None, IfSome, Result, Ok, Err, ⊤, refl}
 use Rattle.std.specs.Str.{is_utf8, chars}
+use Rattle.std.proofs.Common.{inl, inr, lit≤}
 use Rattle.toml.proofs.OnLiterals.{toml_on_literals}
 use Rattle.kb_base.specs.Faults.{Rose}
 use Rattle.kb_book.specs.Worlds.{WorldValue}
@@ -12,9 +13,10 @@ use Rattle.kb_catalog_text.specs.Texts.{text_read, document_of}
 use Rattle.kb_codec.specs.declared.command.Command.{Command}
 use Rattle.kb_codec.specs.declared.command.Command.TheVariants as kinds
 use Rattle.kb_codec.specs.Commands.{IsCatalogText, IsOverdueText}
+use Rattle.kb_journal.specs.Beginnings.{HasOrBegins}
 use Rattle.kb_journal.specs.Format.{StandsFor}
 use Rattle.kb_codec.specs.Entries.{History, payloads}
-use Rattle.kb_disk.specs.Places.{is_among}
+use Rattle.kb_disk.specs.Places.{is_among, SameLanes}
 use Rattle.kb_disk.specs.declared.fault.FileFault.{FileFault}
 use Rattle.kb_disk.specs.declared.fault.FileFault.TheVariants as files
 use Rattle.kb_disk.specs.declared.vault.TheConstants.{MAX_FILE}
@@ -120,6 +122,42 @@ abbrev pub FoundsWith : ℕ → List ℕ → ℕ → ℕ → ℕ → Option (Lis
 FoundsWith today folder lanes count touched catalog_file overdue_file old new =
     (catalog : CatalogText) × (overdue : OverdueText) × AreTextsOf catalog_file overdue_file catalog overdue
     × FoundsFirst folder lanes count touched (payloads (first_commands today catalog overdue)) old new
+
+-- A lane is unharmed: where its bytes are told before and after, they are those that it had, or, if it had
+-- none, they begin its journal of these records.
+abbrev pub IsUnharmed : ℕ → ℕ → List (List ℕ) → Option (List ℕ) → Option (List ℕ) → Type 0
+IsUnharmed lanes lane records old new = WhereTold old new (HasOrBegins lanes lane records)
+
+two_letters_where_none_were : IsUnharmed 3 1 [] (Some []) (Some (75 ∷ 66 ∷ []))
+two_letters_where_none_were = inr (refl, inl (lit≤ tt))
+
+-- no lane of a folder is harmed, of so many that were to be made with these records
+abbrev pub HarmsNone : List ℕ → ℕ → List (List ℕ) → Bytes → Bytes → Type 0
+HarmsNone folder lanes records old new = (lane : ℕ) → lane < lanes
+    → IsUnharmed lanes lane records (old folder lane) (new folder lane)
+
+all_as_before : HarmsNone (codes "shop") 2 [] (λ folder lane. Some (7 ∷ [])) (λ folder lane. Some (7 ∷ []))
+all_as_before = λ lane less. inl refl
+
+-- The lanes before one are made; that one isn't harmed, and none behind it is touched.
+abbrev pub FailsAtOne : List ℕ → ℕ → List (List ℕ) → Bytes → Bytes → Type 0
+FailsAtOne folder lanes records old new = (lane : ℕ) × (lane < lanes)
+    × FoundsFirst folder lanes lane (lane + 1) records old new
+    × IsUnharmed lanes lane records (old folder lane) (new folder lane)
+
+-- The lanes before one are made, and none from it on is touched.
+abbrev pub StopsBeforeOne : List ℕ → ℕ → List (List ℕ) → Bytes → Bytes → Type 0
+StopsBeforeOne folder lanes records old new = (lane : ℕ) × (lane < lanes)
+    × FoundsFirst folder lanes lane lane records old new
+
+-- Of all lanes the same is told; or this holds of them, with the texts of two files, handed in on a day, as
+-- records.
+abbrev pub SameOrWith : ℕ → Option (List ℕ) → Option (List ℕ) → (List (List ℕ) → Bytes → Bytes → Type 0)
+    → Bytes → Bytes → Type 0
+SameOrWith today catalog_file overdue_file P old new = SameLanes new old
+    ⊎ ((catalog : CatalogText) × (overdue : OverdueText)
+    × AreTextsOf catalog_file overdue_file catalog overdue
+    × P (payloads (first_commands today catalog overdue)) old new)
 
 -- a fault of a disk is counted, and nothing else is
 abbrev pub CountsFaults : {A : Type 0} → ℕ → ℕ → Result A Unfounded → Type 0

@@ -1,12 +1,13 @@
 //! All lanes of a folder, made with both texts.
-ghost use Rattle.std.specs.Prelude.{◌≡◌, ◌≤◌, ◌<◌, ◌+◌, ℕ, false, Err, IfSome, OnOk};
+ghost use Rattle.std.specs.Prelude.{◌≡◌, ◌≤◌, ◌<◌, ◌+◌, ℕ, false, Err, IfSome, OnOk, OnErr};
 ghost use Rattle.kb_catalog_text.specs.declared.fault.TextFault.{TextFault as AnyTextFault};
 ghost use Rattle.kb_catalog_text.specs.Texts.{CatalogText, OverdueText};
 ghost use Rattle.kb_machine.specs.Histories.{AreNewFrom, replay};
 ghost use Rattle.kb_machine.specs.Machines.{no_machine};
 ghost use Rattle.kb_disk.specs.Places.{SameFiles, SameLanes};
 ghost use Rattle.kb_folder.specs.Foundings.{first_commands, first_world, text_fault, TellsFault};
-ghost use Rattle.kb_folder.specs.Foundings.{FoundsWith, IsLeft, SameFrom, CountsFaults};
+ghost use Rattle.kb_folder.specs.Foundings.{FoundsWith, IsLeft, SameFrom, CountsFaults, SameOrWith};
+ghost use Rattle.kb_folder.specs.Foundings.{FailsAtOne, StopsBeforeOne, HarmsNone};
 
 use crate::lanes::found_each;
 use crate::texts::both_records;
@@ -48,6 +49,16 @@ pub fn found_lanes<V: Vault>(
         → FoundsWith today folder.now lanes lane
         (lane + 1) (V.file_bytes vault.old catalog.now) (V.file_bytes vault.old overdue.now)
         (V.lane_bytes vault.old) (V.lane_bytes vault.new) }
+    ensures failed { result ≡ Err Unfounded.Disk → SameOrWith today (V.file_bytes vault.old catalog.now)
+        (V.file_bytes vault.old overdue.now) (FailsAtOne folder.now lanes)
+        (V.lane_bytes vault.old) (V.lane_bytes vault.new) }
+    ensures no_memory { result ≡ Err Unfounded.NoMemory
+        → SameOrWith today (V.file_bytes vault.old catalog.now)
+        (V.file_bytes vault.old overdue.now) (StopsBeforeOne folder.now lanes)
+        (V.lane_bytes vault.old) (V.lane_bytes vault.new) }
+    ensures unharmed { OnErr result (SameOrWith today (V.file_bytes vault.old catalog.now)
+        (V.file_bytes vault.old overdue.now) (HarmsNone folder.now lanes)
+        (V.lane_bytes vault.old) (V.lane_bytes vault.new)) }
     ensures others { SameFrom folder.now lanes (V.lane_bytes vault.old) (V.lane_bytes vault.new) }
     ensures same_out { SameLanes (V.is_out vault.new) (V.is_out vault.old) }
     ensures same_files { SameFiles (V.file_bytes vault.new) (V.file_bytes vault.old) }

@@ -2,7 +2,9 @@
 ghost use Rattle.std.specs.Prelude.{◌≡◌, ◌≤◌, ◌<◌, ◌+◌, ◌++◌, ◌∷◌, [], ℕ, List, false, length, IsTrue, IfErr};
 ghost use Rattle.std.specs.Prelude.{OnOk, OnErr};
 ghost use Rattle.kb_base.specs.Faults.{Rose};
-ghost use Rattle.kb_journal.specs.Format.{IsSized, StandsFor};
+ghost use Rattle.kb_disk.specs.Images.{Only};
+ghost use Rattle.kb_journal.specs.Beginnings.{HasOrBegins, IsBegun};
+ghost use Rattle.kb_journal.specs.Format.{IsSized, IsWithOrWithout, StandsFor};
 ghost use Rattle.kb_journal.specs.Keeping.{Holds, RefusesToCreate};
 
 use kb_base::Failed;
@@ -25,6 +27,9 @@ pub(crate) fn write_lane<D: Disk>(
     ensures stands { IsTrue (D.honest disk) → OnOk result.1
         (StandsFor lanes lane (first.now ∷ second.now ∷ []) (D.seen result.0)) }
     ensures calm { OnOk result.1 (D.fault_count result.0 ≡ D.fault_count disk) }
+    ensures unharmed { IsTrue (D.honest disk) → Only (D.seen disk) (D.images disk)
+        → OnErr result.1 (HasOrBegins lanes lane (first.now ∷ second.now ∷ [])
+        (D.seen disk) (D.seen result.0)) }
     ensures refused { IfErr result.1 (λ fault.
         RefusesToCreate D.honest D.seen D.images D.fault_count disk fault result.0) }
 {
@@ -43,6 +48,8 @@ fn filled<D: Disk>(journal: Journal<D>, first: &[u8], second: &[u8]) -> (D, Resu
     requires sized_second { IsSized second.now }
     ensures stands { Holds D.honest D.seen D.images journal [] → OnOk result.1
         (StandsFor journal.lanes journal.lane (first.now ∷ second.now ∷ []) (D.seen result.0)) }
+    ensures begun { Holds D.honest D.seen D.images journal [] → OnErr result.1
+        (IsBegun journal.lanes journal.lane (first.now ∷ second.now ∷ []) (D.seen result.0)) }
     ensures calm { OnOk result.1 (D.fault_count result.0 ≡ D.fault_count journal.disk) }
     ensures fault { IfErr result.1 (λ fault. fault ≡ CreateFault.DiskFault) }
     ensures cause { OnErr result.1 (Rose (D.fault_count journal.disk) (D.fault_count result.0)) }
@@ -65,6 +72,9 @@ fn add_both<D: Disk>(
     requires sized_second { IsSized second.now }
     ensures holds { Holds D.honest D.seen D.images journal.old [] → OnOk result
         (Holds D.honest D.seen D.images journal.new (first.now ∷ second.now ∷ [])) }
+    ensures begun { Holds D.honest D.seen D.images journal.old [] → OnErr result
+        (IsBegun journal.old.lanes journal.old.lane (first.now ∷ second.now ∷ [])
+        (D.seen journal.new.disk)) }
     ensures same { (journal.new.lanes ≡ journal.old.lanes) × (journal.new.lane ≡ journal.old.lane) }
     ensures calm { OnOk result (D.fault_count journal.new.disk ≡ D.fault_count journal.old.disk) }
     ensures fault { IfErr result (λ fault. fault ≡ CreateFault.DiskFault) }
@@ -87,6 +97,9 @@ fn add<D: Disk>(journal: &mut Journal<D>, bytes: &[u8]) -> Result<(), Failed>
     requires sized { IsSized bytes.now }
     ensures holds { (records : List (List ℕ)) → Holds D.honest D.seen D.images journal.old records
         → OnOk result (Holds D.honest D.seen D.images journal.new (records ++ bytes.now ∷ [])) }
+    ensures torn { (records : List (List ℕ)) → Holds D.honest D.seen D.images journal.old records
+        → OnErr result (IsWithOrWithout journal.old.lanes journal.old.lane records bytes.now
+        (D.seen journal.new.disk)) }
     ensures running { OnOk result (journal.new.stopped ≡ false) }
     ensures counted { OnOk result (journal.new.count ≡ journal.old.count + 1) }
     ensures placed { OnOk result (journal.new.gate ≡ journal.old.gate + length bytes.now + 5) }

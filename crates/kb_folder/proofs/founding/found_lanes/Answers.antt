@@ -3,6 +3,7 @@ use Rattle.kb_codec.specs.Entries.{payload, payloads}
 use Rattle.kb_folder.specs.Foundings.{CountsFaults, catalog_command, overdue_command, first_commands}
 use Rattle.kb_folder.specs.Private.Runs.{Founds}
 use Rattle.kb_folder.proofs.Outcomes.{from_start, founded_with, one_left, no_text, tells_of, others_same}
+use Rattle.kb_folder.proofs.Unharmed.{unharmed_with}
 use Rattle.kb_folder.proofs.founding.found_lanes.Goals as goal
 
 -- the run, told from the start
@@ -61,6 +62,14 @@ returns-clause-before g c =
       (one_left c.args.folder.now c.args.lanes _ (g.V.Vault.lane_bytes c.args.vault.now)
           (g.V.Vault.lane_bytes c.found_each.new.vault) c.found_each.result (ran g c) lane is).1,
     )
+
+pub returns-clause-unharmed : goal.returns-clause-unharmed
+returns-clause-unharmed g c =
+    unharmed_with c.args.today c.args.folder.now c.args.lanes
+    (g.V.Vault.file_bytes c.args.vault.now c.args.catalog.now)
+    (g.V.Vault.file_bytes c.args.vault.now c.args.overdue.now) (g.V.Vault.lane_bytes c.args.vault.now)
+    (g.V.Vault.lane_bytes c.found_each.new.vault) c.in-Ok.ensures.records.0 c.in-Ok.ensures.records.1
+    c.in-Ok.ensures.records.2 c.found_each.result (ran g c)
 
 pub returns-clause-others : goal.returns-clause-others
 returns-clause-others g c =
