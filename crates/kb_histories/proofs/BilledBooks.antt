@@ -119,7 +119,7 @@ was-keep command (Some key) outcome was =
     record { world = was.world; days = was.days; matched = was.matched; below = was.below }
 
 -- each accepted command leaves it so
-was-accepted : (world : WorldValue) (book : BookValue) (today : ℕ) (command : Command) → WasBilled book
+pub was-accepted : (world : WorldValue) (book : BookValue) (today : ℕ) (command : Command) → WasBilled book
     → WasBilled (accepted_over world book today command first_day charged_days).1
 was-accepted world book today command was =
     let edited : BookValue = begun world book today command in

@@ -1,5 +1,6 @@
 -- Accounts are billed by the texts of now, after each command.
-use Rattle.std.proofs.Common.{◌≡◌, ℕ, ◌+◌, List, [], ◌∷◌, ◌++◌, Option, Some, None, refl, sym, subst, ◌∙◌}
+use Rattle.std.proofs.Common.{◌≡◌, ℕ, ◌+◌, List, [], ◌∷◌, ◌++◌, length, Option, Some, None, refl, sym, subst}
+use Rattle.std.proofs.Common.{◌∙◌}
 use Rattle.std.specs.List.{fold}
 use Rattle.std.proofs.Math.Path.{fun_ext, subst₂}
 use Rattle.kb_days.specs.Calendar.{first_day, charged_days}
@@ -25,7 +26,7 @@ use Rattle.kb_codec.specs.Senders.{account_of, key_of}
 use Rattle.kb_machine.specs.Histories.{entry_after, replay}
 use Rattle.kb_histories.proofs.FoundEntries.{found-put}
 use Rattle.kb_histories.specs.BilledMachines.{WasBilled, AreBilled}
-use Rattle.kb_histories.proofs.BilledBooks.{after-charged, books_stay_billed}
+use Rattle.kb_histories.proofs.BilledBooks.{after-charged, was-accepted, books_stay_billed}
 use Rattle.kb_histories.specs.HeldPlans.{HasPlansOf}
 use Rattle.kb_histories.specs.LaterVersions.{with_later}
 use Rattle.kb_histories.specs.HeldMachines.{HasAllPlans}
@@ -96,13 +97,20 @@ billed-opened world today name request c = record { days = tt; totals = refl }
 
 -- with one more book
 billed-put : (machine : MachineValue) (own : List ℕ) (value : BookValue) → AreBilledNow machine
-    → IsBilled machine.texts.world value → AreBilledNow (with_book machine own value)
-billed-put machine own value are billed = record {
+    → IsBilled machine.texts.world value → length value.charges ≡ length value.timeline.subscriptions
+    → AreBilledNow (with_book machine own value)
+billed-put machine own value are billed matched = record {
   billed =
       λ account book. found-put account own value machine.books
       (λ found. found ≡ Some book → IsBilled machine.texts.world book)
       (λ other there. are.billed account book there)
       (λ same there. let one : value ≡ book = cc in subst (IsBilled machine.texts.world) one billed);
+  matched =
+      λ account book. found-put account own value machine.books
+      (λ found. found ≡ Some book → length book.charges ≡ length book.timeline.subscriptions)
+      (λ other there. are.matched account book there)
+      (λ same there. let one : value ≡ book = cc in
+      subst (λ (one : BookValue). length one.charges ≡ length one.timeline.subscriptions) one matched);
 }
 
 -- each command leaves all books so
@@ -113,13 +121,16 @@ books_stay_billed_now machine today command were has are =
       billed = λ account book there.
           billed-texts machine.texts texts book more (has.held account book there)
           (are.billed account book there);
+      matched = are.matched;
     })
     (λ name request c. billed-put machine (account_of command) _ are
-    (billed-opened machine.texts.world today name request c))
+    (billed-opened machine.texts.world today name request c) refl)
     (λ book there none.
     billed-put machine (account_of command) _ are
     (billed-accepted machine.texts.world book today command (were.billed (account_of command) book there)
-    (are.billed (account_of command) book there)))
+    (are.billed (account_of command) book there))
+    (was-accepted machine.texts.world book today command
+    (were.billed (account_of command) book there)).matched)
 
 -- and each history leads to such ones
 billed-after : (later : History) (machine : MachineValue) → AreBilled machine → HasAllPlans machine
@@ -134,4 +145,4 @@ unfolding replay
 replays_are_billed_now history =
     billed-after history no_machine (record { billed = λ account book there. absurd (cc); ordered = tt })
     (record { held = λ account book there. absurd (cc) })
-    (record { billed = λ account book there. absurd (cc) })
+    (record { billed = λ account book there. absurd (cc); matched = λ account book there. absurd (cc) })

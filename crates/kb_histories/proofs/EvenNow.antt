@@ -152,5 +152,5 @@ unfolding replay
 replays_are_even_now history =
     even-after history no_machine (record { billed = λ account book there. absurd (cc); ordered = tt })
     (record { held = λ account book there. absurd (cc) })
-    (record { billed = λ account book there. absurd (cc) })
+    (record { billed = λ account book there. absurd (cc); matched = λ account book there. absurd (cc) })
     (record { even = λ account book there. absurd (cc) })

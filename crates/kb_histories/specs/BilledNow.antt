@@ -1,5 +1,5 @@
 -- Accounts are billed by the texts of now, not only by those of their last command.
-use Rattle.std.specs.Prelude.{ℕ, ◌≡◌, List, [], ◌∷◌, Some, true, refl}
+use Rattle.std.specs.Prelude.{ℕ, ◌≡◌, List, [], ◌∷◌, length, Some, true, refl}
 use Rattle.kb_catalog.specs.SmallVersion.{small}
 use Rattle.kb_codec.specs.declared.command.Command.{Command}
 use Rattle.kb_book.specs.Books.{BookValue}
@@ -14,10 +14,12 @@ use Rattle.kb_histories.specs.BilledMachines.{AreBilled}
 use Rattle.kb_histories.specs.HeldMachines.{HasAllPlans}
 
 -- each day of each account has exactly the charge that is due by the texts at the account's billed date, or
--- none, and its invoices total what all days cost by them
+-- none, and its invoices total what all days cost by them; and each of its subscriptions is charged so
 pub record AreBilledNow (machine : MachineValue) : Type 0 where
   pub billed : (account : List ℕ) (book : BookValue) → book_of machine account ≡ Some book
       → IsBilled machine.texts.world book
+  pub matched : (account : List ℕ) (book : BookValue) → book_of machine account ≡ Some book
+      → length book.charges ≡ length book.timeline.subscriptions
 
 -- it stays so after each command
 abbrev pub BooksStayBilledNow : Type 0
