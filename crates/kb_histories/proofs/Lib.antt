@@ -26,6 +26,7 @@ mod Members
 pub mod NamedBooks
 pub mod NamedSums
 mod OneAccount
+pub mod OnlyAdded
 mod OrderedBooks
 pub mod OwnEntries
 mod PutBooks

@@ -56,7 +56,7 @@ pay = kinds.Act (codes "a1") (codes "k3") (actions.Pay (record {
 abbrev give_back : Command
 give_back = kinds.Act (codes "a1") (codes "k4") (actions.Credit (record { amount = 400 }))
 
-abbrev credited_late : History
+abbrev pub credited_late : History
 credited_late = (march 1, opened) ∷ (march 1, charge) ∷ (march 2, pay) ∷ (march 2, settle_p1 Success)
     ∷ (march 3, give_back) ∷ []
 

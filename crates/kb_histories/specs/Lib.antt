@@ -11,6 +11,7 @@ pub mod HeldPlans
 pub mod LaterVersions
 pub mod NamedWork
 pub mod Names
+pub mod OnlyAdded
 pub mod Openings
 pub mod OwnCommands
 pub mod OwnWork

@@ -1,0 +1,9 @@
+//! What the invoices of accounts hold.
+ghost use Rattle.kb_histories.specs.OnlyAdded.{CommandsOnlyAdd, HistoriesOnlyAdd, CommandsIssueOne};
+
+/// Items are only added to invoices, and each invoice keeps its number, its day and its total.
+pub fn items_are_only_added()
+    ensures stay { CommandsOnlyAdd }
+    ensures replayed { HistoriesOnlyAdd }
+    ensures one_invoice { CommandsIssueOne }
+{}
