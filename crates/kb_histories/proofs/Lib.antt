@@ -1,5 +1,6 @@
 mod AcceptedBooks
 mod AccountSteps
+pub mod AddUp
 mod AskedPlans
 pub mod BegunAttempts
 pub mod BilledBooks

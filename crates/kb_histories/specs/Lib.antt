@@ -1,3 +1,4 @@
+pub mod AddUp
 pub mod Attempts
 pub mod Begins
 pub mod BilledMachines

@@ -1,4 +1,5 @@
 //! What the invoices of accounts hold.
+ghost use Rattle.kb_histories.specs.AddUp.{InvoicesStayAddedUp, ReplaysAddUp};
 ghost use Rattle.kb_histories.specs.OnlyAdded.{CommandsOnlyAdd, HistoriesOnlyAdd, CommandsIssueOne};
 
 /// Items are only added to invoices, and each invoice keeps its number, its day and its total.
@@ -6,4 +7,10 @@ pub fn items_are_only_added()
     ensures stay { CommandsOnlyAdd }
     ensures replayed { HistoriesOnlyAdd }
     ensures one_invoice { CommandsIssueOne }
+{}
+
+/// The items of each invoice add up to its total and to its credit adjustments, whatever was adjusted since.
+pub fn invoices_add_up()
+    ensures stay { InvoicesStayAddedUp }
+    ensures replayed { ReplaysAddUp }
 {}
