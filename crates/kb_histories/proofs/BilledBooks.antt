@@ -49,7 +49,7 @@ module _ (world : WorldValue) (book edited : BookValue) (own : List Line) (today
   after = billed_with edited today issue own
 
   -- the numbers of the edited book's items are below the next one
-  were-below : All (AreBelow first) edited.charges
+  pub were-below : All (AreBelow first) edited.charges
   were-below = by_edit edit.subscriptions
     where
       next : length book.invoices.items + 1 ≡ first
@@ -76,7 +76,7 @@ module _ (world : WorldValue) (book edited : BookValue) (own : List Line) (today
           omega (arith, ap length more.0, length-append book.charges (no_items ∷ []), more.1, was.matched)
 
   -- the days of its subscriptions are charged by what was due before
-  were-charged : AreCharged (facts_of was.world book) book.billed 0 edited.charges
+  pub were-charged : AreCharged (facts_of was.world book) book.billed 0 edited.charges
   were-charged = by_edit edit.subscriptions
     where
       by_edit : AreKept book edited ⊎ HaveOneMore book edited

@@ -36,6 +36,7 @@ mod RangeSums
 pub mod RepeatedEntries
 pub mod SettledAttempts
 pub mod SettlementWork
+pub mod Shown
 pub mod StayingAttempts
 pub mod TakenWork
 mod TextSteps

@@ -21,5 +21,6 @@ pub mod Repeats
 pub mod RequestKeys
 pub mod SettledWork
 pub mod Settlements
+pub mod Shown
 pub mod SmallMachines
 pub mod Stays

@@ -3,9 +3,9 @@
 //! The rule kept here: a command of a caller acts once, and an account depends on its own commands and the
 //! texts alone. A payment attempt stays as it is until it is settled, and for good once it is final. What
 //! accounts ask for by themselves on a day comes to an end. What a shop hands in later changes no charge of
-//! what was chosen before. Items are only added to invoices, and add up to what these total. Each law is the
-//! clause of a function that does nothing, and speaks of the definitions of `kb_machine`: a lane is what its
-//! history leads to, so they hold of each lane.
+//! what was chosen before. Items are only added to invoices, add up to what these total, and show what days
+//! are charged by. Each law is the clause of a function that does nothing, and speaks of the definitions of
+//! `kb_machine`: a lane is what its history leads to, so they hold of each lane.
 #![tactic(auto)]
 
 mod accounts;
@@ -23,7 +23,7 @@ pub use books::{books_are_named, due_commands_are_new, keys_are_apart};
 pub use drains::{
     books_are_billed, due_commands_take_work, settlements_add_no_work, work_is_bounded,
 };
-pub use invoices::{invoices_add_up, items_are_only_added};
+pub use invoices::{invoices_add_up, items_are_only_added, items_are_shown};
 pub use machines::{
     accounts_are_billed, accounts_are_even, plans_are_held, replayed_work_is_bounded,
 };
