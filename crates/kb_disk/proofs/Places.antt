@@ -13,7 +13,7 @@ is_false false never = refl
 
 module _ (folder : List ℕ) (lane : ℕ) where
   -- a place is one folder and one lane
-  one_place : (other_folder : List ℕ) (other : ℕ) → is_place folder lane other_folder other ≡ true
+  pub one_place : (other_folder : List ℕ) (other : ℕ) → is_place folder lane other_folder other ≡ true
       → (folder ≡ other_folder) × (lane ≡ other)
   one_place other_folder other is =
       let parts = and_parts _ _ is in

@@ -8,6 +8,7 @@ use Rattle.kb_disk.specs.declared.note.DiskCall.{DiskCall}
 use Rattle.kb_disk.specs.declared.note.DiskCall.TheVariants.{Size, Read, Write, Cut, Sync}
 use Rattle.kb_disk.specs.declared.note.DiskNote.{DiskNote}
 use Rattle.kb_disk.specs.Images.{overwritten, Torn, CutDown}
+use Rattle.kb_disk.specs.Told.{DiskTold}
 
 -- The calls of a disk: a note of each, the numbers of those that are to fail, how many were made and how many
 -- failed, and whether a note found no room. From then on each call fails and none is noted.
@@ -134,3 +135,14 @@ fresh bytes failing = record { first = bytes; log = empty_log failing }
 -- the notes, which are told as long as each call found room for its own
 abbrev pub told : LogValue → Option (List DiskNote)
 told log = if log.lost then None else Some log.notes
+
+-- what a disk in memory tells: it is honest
+abbrev pub memory_told : DiskTold DiskValue
+memory_told = record {
+  honest = λ disk. true;
+  seen = seen;
+  images = images;
+  moment = moment;
+  left_since = left_since;
+  fault_count = λ disk. disk.log.faults;
+}

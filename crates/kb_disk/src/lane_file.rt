@@ -1,14 +1,16 @@
 //! The file of a lane, in memory.
-ghost use Rattle.std.specs.Prelude.{◌≡◌, [], Some, None, IfOk, IsSome, option_map, string_bytes};
+ghost use Rattle.std.specs.Prelude.{◌≡◌, [], ◌∷◌, ◌++◌, Some, None, IfOk, IsSome, option_map, string_bytes};
+ghost use Rattle.kb_disk.specs.Memory.{seen};
 ghost use Rattle.kb_disk.specs.Places.{is_place};
 ghost use Rattle.kb_disk.specs.VaultMemory as memory;
 
 use crate::memory_disk::MemoryDisk;
-use kb_base::NoMemory;
+use kb_base::{History, NoMemory};
 use std::alloc::Global;
 use std::marker::Model;
 
 /// The file of a lane of a folder, in memory, with the numbers of the calls of its disk that are to fail.
+/// Contracts see the disks that came back; code sees nothing of them.
 #[derive(Drop)]
 pub struct LaneFile {
     folder: String,
@@ -16,10 +18,11 @@ pub struct LaneFile {
     /// None while the lane is out.
     bytes: Option<Vec<u8>>,
     failing: Vec<u64>,
+    came_back: History<u32, MemoryDisk>,
 }
 
 impl Model for LaneFile {
-    ghost use Rattle.std.specs.Prelude.{option_map, string_bytes};
+    ghost use Rattle.std.specs.Prelude.{map, option_map, string_bytes};
     ghost use Rattle.kb_disk.specs.VaultMemory.{LaneValue};
 
     ghost Value = { LaneValue };
@@ -29,6 +32,7 @@ impl Model for LaneFile {
       lane = file.lane;
       bytes = option_map (λ bytes. bytes.items) file.bytes;
       failing = file.failing.items;
+      came_back = map (λ note. note.1) file.came_back;
     } };
 }
 
@@ -41,6 +45,7 @@ impl LaneFile {
           lane = lane;
           bytes = Some bytes.items;
           failing = failing.items;
+          came_back = [];
         } }
     {
         LaneFile {
@@ -48,6 +53,7 @@ impl LaneFile {
             lane,
             bytes: Some(bytes),
             failing,
+            came_back: History::new(),
         }
     }
 
@@ -58,6 +64,7 @@ impl LaneFile {
           lane = lane;
           bytes = None;
           failing = [];
+          came_back = [];
         }) }
     {
         Ok(LaneFile {
@@ -65,6 +72,7 @@ impl LaneFile {
             lane,
             bytes: None,
             failing: Vec::new(alloc),
+            came_back: History::new(),
         })
     }
 
@@ -90,10 +98,21 @@ impl LaneFile {
         }
     }
 
-    /// Sets its bytes, or that it is out.
-    pub(crate) fn set_bytes(&mut self, bytes: Option<Vec<u8>>)
-        ensures { self.new ≡ record self.old { bytes = option_map (λ bytes. bytes.items) bytes } }
+    /// Takes it out.
+    pub(crate) fn take_out(&mut self)
+        ensures { self.new ≡ record self.old { bytes = None } }
     {
-        self.bytes = bytes;
+        self.bytes = None;
+    }
+
+    /// Takes the bytes of its disk back, and notes that it came.
+    pub(crate) fn take_back(&mut self, disk: MemoryDisk)
+        ensures { self.new ≡ record self.old {
+          bytes = Some (seen disk);
+          came_back = self.old.came_back ++ disk ∷ [];
+        } }
+    {
+        self.came_back.note(&self.lane, &disk);
+        self.bytes = Some(disk.into_bytes());
     }
 }

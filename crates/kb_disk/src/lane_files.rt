@@ -50,19 +50,19 @@ impl LaneFiles {
         ensures err { OnErr result (self.new ≡ self.old) }
     {
         match self.place(folder, lane) {
-            Some(place) => self.files[place].set_bytes(None),
+            Some(place) => self.files[place].take_out(),
             None => self.files.push(LaneFile::new_out(alloc, folder, lane)?)?,
         }
         Ok(())
     }
 
-    /// Gives a lane that is out back, with these bytes.
-    pub fn give_back(&mut self, folder: &str, lane: u32, bytes: Vec<u8>)
+    /// Gives the disk of a lane that is out back.
+    pub fn give_back(&mut self, folder: &str, lane: u32, disk: MemoryDisk)
         requires outside { memory.is_out self.old folder.now lane ≡ true }
-        ensures { self.new ≡ memory.with_bytes self.old folder.now lane (Some bytes.items) }
+        ensures { self.new ≡ memory.with_disk self.old folder.now lane disk }
     {
         match self.place(folder, lane) {
-            Some(place) => self.files[place].set_bytes(Some(bytes)),
+            Some(place) => self.files[place].take_back(disk),
             None => unreachable!(),
         }
     }

@@ -93,17 +93,7 @@ impl MemoryDisk {
 }
 
 impl Disk for MemoryDisk {
-    ghost honest = { λ disk. true };
-
-    ghost seen = { memory.seen };
-
-    ghost images = { memory.images };
-
-    ghost moment = { memory.moment };
-
-    ghost left_since = { memory.left_since };
-
-    ghost fault_count = { λ disk. disk.log.faults };
+    ghost told = { memory.memory_told };
 
     fn size(&mut self) -> Result<u64, Failed>
         ensures size { IfOk result (λ size. size ≡ length (memory.seen self.old)) }

@@ -1,9 +1,9 @@
 //! A vault in memory.
-ghost use Rattle.std.specs.Prelude.{◌≡◌, ◌≤◌, ◌<◌, ◌↔◌, true, false, Some, None, length, take};
+ghost use Rattle.std.specs.Prelude.{◌≡◌, ◌≤◌, ◌<◌, ◌↔◌, ◌∷◌, ◌++◌, [], true, false, Some, None, length, take};
 ghost use Rattle.std.specs.Prelude.{IsTrue, IfSome, IfOk, OnOk, OnErr};
 ghost use Rattle.kb_base.specs.Faults.{next_count, Rose};
 ghost use Rattle.kb_ports.specs.Memory.{fails_next};
-ghost use Rattle.kb_disk.specs.Memory.{seen, images};
+ghost use Rattle.kb_disk.specs.Memory.{seen, images, moment};
 ghost use Rattle.kb_disk.specs.Places.{with_lane, SameLanes};
 ghost use Rattle.kb_disk.specs.Vaults.{IsCounted, Opens};
 ghost use Rattle.kb_disk.specs.VaultMemory as memory;
@@ -89,13 +89,7 @@ impl MemoryVault {
 impl Vault for MemoryVault {
     type Disk = MemoryDisk;
 
-    ghost is_out = { λ vault. memory.is_out vault.lanes };
-
-    ghost lane_bytes = { λ vault. memory.bytes_of vault.lanes };
-
-    ghost file_bytes = { λ vault name. Some (memory.text_of vault.texts name) };
-
-    ghost faults = { λ vault. vault.faults };
+    ghost told = { memory.vault_told };
 
     /// It fails exactly by its list.
     #[tactic(auto, using(crate::proofs::Tellings::tellings))]
@@ -104,6 +98,7 @@ impl Vault for MemoryVault {
         ensures disk { IfOk result (λ disk.
             disk ≡ memory.disk_of (memory.file_of self.old.lanes folder.now lane)) }
         ensures fresh { IfOk result (λ disk. disk.log.faults ≡ 0) }
+        ensures unmoved { IfOk result (λ disk. moment disk ≡ 0) }
         ensures opens { IfOk result (λ disk. IfSome (memory.bytes_of self.old.lanes folder.now lane)
             (Opens (λ disk. true) seen images disk)) }
         ensures ok { OnOk result (self.new ≡ record self.old {
@@ -120,6 +115,9 @@ impl Vault for MemoryVault {
             (with_lane (memory.is_out self.old.lanes) folder.now lane true)) }
         ensures lanes { OnOk result (SameLanes (memory.bytes_of self.new.lanes)
             (with_lane (memory.bytes_of self.old.lanes) folder.now lane None)) }
+        ensures same_back { SameLanes
+            (λ folder lane. Some (memory.came_of self.new.lanes folder lane))
+            (λ folder lane. Some (memory.came_of self.old.lanes folder lane)) }
         ensures cause { IsCounted self.old.faults self.new.faults result }
         ensures rising { self.old.faults ≤ self.new.faults }
     {
@@ -133,7 +131,7 @@ impl Vault for MemoryVault {
     fn back(&mut self, folder: &str, lane: u32, disk: MemoryDisk)
         requires outside { memory.is_out self.old.lanes folder.now lane ≡ true }
         ensures left { self.new ≡ record self.old {
-          lanes = memory.with_bytes self.old.lanes folder.now lane (Some (seen disk));
+          lanes = memory.with_disk self.old.lanes folder.now lane disk;
           faults = memory.count_back self.old.faults disk.log.faults;
         } }
         ensures inside { SameLanes (memory.is_out self.new.lanes)
@@ -141,12 +139,18 @@ impl Vault for MemoryVault {
         ensures bytes { memory.bytes_of self.new.lanes folder.now lane ≡ Some (seen disk) }
         ensures other_lanes { SameLanes (memory.bytes_of self.new.lanes)
             (with_lane (memory.bytes_of self.old.lanes) folder.now lane (Some (seen disk))) }
+        ensures noted { memory.came_of self.new.lanes folder.now lane
+            ≡ memory.came_of self.old.lanes folder.now lane ++ disk ∷ [] }
+        ensures others_back { SameLanes
+            (λ folder lane. Some (memory.came_of self.new.lanes folder lane))
+            (with_lane (λ folder lane. Some (memory.came_of self.old.lanes folder lane)) folder.now lane
+            (Some (memory.came_of self.new.lanes folder.now lane))) }
         ensures risen { 0 < disk.log.faults → Rose self.old.faults self.new.faults }
         ensures calm { disk.log.faults ≡ 0 → self.new.faults ≡ self.old.faults }
         ensures rising { self.old.faults ≤ self.new.faults }
     {
         let failed = disk.faults();
-        self.lanes.give_back(folder, lane, disk.into_bytes());
+        self.lanes.give_back(folder, lane, disk);
         self.count_disk(failed);
     }
 

@@ -1,5 +1,5 @@
 -- What a gateway is asked and tells, and what becomes of an attempt by it.
-use Rattle.std.specs.Prelude.{◌≡◌, ⊤, List, [], ◌∷◌, ◌++◌, Option, None, Some, Result, Ok, Err}
+use Rattle.std.specs.Prelude.{Result, Ok, Err}
 use Rattle.kb_base.specs.declared.fault.Failed.{Failed}
 use Rattle.kb_payment.specs.declared.attempt.Status.{Status}
 use Rattle.kb_payment.specs.declared.attempt.Status.TheVariants.{Unknown, Success, PaymentFailure}
@@ -23,13 +23,6 @@ status_of Pending = status.Pending
 status_of Error = PaymentFailure
 status_of Canceled = PluginFailure
 status_of Undefined = Unknown
-
--- A note is added to a list that is told. An object that could not note a call tells the list no more, and
--- then never again.
-abbrev pub Notes : {A : Type 0} → Option (List A) → A → Option (List A) → Type 0
-Notes before note None = ⊤
-Notes None note (Some after) = ⊥
-Notes (Some before) note (Some after) = after ≡ before ++ note ∷ []
 
 -- the order as it is noted
 abbrev pub asked_of : Order → Asked

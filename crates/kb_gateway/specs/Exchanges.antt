@@ -2,8 +2,9 @@
 use Rattle.std.specs.Prelude.{ℕ, ◌≡◌, ◌≢◌, ◌≤◌, Bool, false, List, ◌++◌, length, Option, None, Some, codes}
 use Rattle.std.specs.Prelude.{refl}
 use Rattle.kb_base.specs.Stream.{Reads, Writes}
-use Rattle.kb_gateway.specs.declared.order.Asked.{Asked}
+use Rattle.kb_gateway.specs.declared.order.Order.{Order}
 use Rattle.kb_gateway.specs.GatewayLines.{line}
+use Rattle.kb_gateway.specs.Told.{GatewayTold}
 
 -- A gateway over a link: the link, whether the exchanges over it have ended, since one has failed, and how
 -- many calls have failed.
@@ -17,8 +18,16 @@ abbrev pub new_value : {L : Type 0} → L → LineValue L
 new_value link = record { link = link; ended = false; faults = 0 }
 
 -- it tells neither what it was asked nor what it heard
-abbrev pub orders_untold : Option (List Asked)
+abbrev pub orders_untold : Option (List Order)
 orders_untold = None
+
+abbrev pub line_told : {L : Type 0} → GatewayTold (LineValue L)
+line_told = record {
+  asked = λ gateway. orders_untold;
+  said = λ gateway. None;
+  faults = λ gateway. gateway.faults;
+  cancels = λ gateway. false;
+}
 
 -- the most bytes of a line that answers, with its line feed
 abbrev pub max_answer : ℕ

@@ -4,3 +4,4 @@ pub mod GatewayIds
 pub mod GatewayLines
 pub mod ListGateways
 pub mod Private
+pub mod Told

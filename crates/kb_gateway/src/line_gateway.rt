@@ -17,9 +17,10 @@
 ghost use Rattle.std.specs.Prelude.{◌≡◌, ◌≤◌, ◌⊎◌, IsErr, IsTrue, is_err, IfOk, OnOk, OnErr, None, true};
 ghost use Rattle.std.specs.Io.KnownBytes.{Appends, Consumes};
 ghost use Rattle.kb_base.specs.Faults.{HasCause, Rose, next_count};
-ghost use Rattle.kb_gateway.specs.Answers.{Notes, asked_of, said_of_ask, said_of_look_up};
+ghost use Rattle.kb_ports.specs.Notes.{Notes};
+ghost use Rattle.kb_gateway.specs.Answers.{said_of_ask, said_of_look_up};
 ghost use Rattle.kb_gateway.specs.GatewayLines.{ask_line, look_line, told_line, seen_line};
-ghost use Rattle.kb_gateway.specs.Exchanges.{new_value, orders_untold, WritesPart, ReadsFew, HasNoAnswer};
+ghost use Rattle.kb_gateway.specs.Exchanges.{line_told, new_value, orders_untold, WritesPart, ReadsFew, HasNoAnswer};
 
 use crate::exchange::{ask_over, look_up_over};
 use crate::gateway::Gateway;
@@ -90,16 +91,12 @@ impl<L: Link> LineGateway<L> {
 }
 
 impl<L: Link> Gateway for LineGateway<L> {
-    ghost asked = { λ _. orders_untold };
-
-    ghost said = { λ _. None };
-
-    ghost faults = { λ gateway. gateway.faults };
+    ghost told = { line_told };
 
     /// Asks for the order by a line, and reads the answer. It fails where an earlier call has failed, where
     /// the link fails, and where another line than an answer comes, or none.
     fn ask(&mut self, order: &Order) -> Result<Told, Failed>
-        ensures asked { Notes orders_untold (asked_of order.now) orders_untold }
+        ensures asked { Notes orders_untold order.now orders_untold }
         ensures said { Notes None (said_of_ask order.now result) None }
         ensures cause { HasCause self.old.faults self.new.faults result }
         ensures calm { OnOk result (self.new.faults ≡ self.old.faults) }

@@ -1,13 +1,15 @@
 //! A gateway in memory.
-ghost use Rattle.std.specs.Prelude.{◌≡◌, ◌≤◌, ◌↔◌, drop, option_map, None, IsErr, IsOk, IsSome, IsTrue, IfOk};
+ghost use Rattle.std.specs.Prelude.{◌≡◌, ◌≤◌, ◌↔◌, drop, option_map, [], None, IsErr, IsOk, IsSome};
+ghost use Rattle.std.specs.Prelude.{IsTrue, IfOk};
 ghost use Rattle.std.specs.Prelude.{◌⊎◌, OnErr, OnOk};
 ghost use Rattle.kb_base.specs.Faults.{next_count, HasCause};
 ghost use Rattle.kb_ports.specs.Memory.{fails_next};
-ghost use Rattle.kb_gateway.specs.Answers.{Notes, asked_of, said_of_ask, said_of_look_up};
-ghost use Rattle.kb_gateway.specs.ListGateways.{new_gateway, next_told, next_seen};
+ghost use Rattle.kb_ports.specs.Notes.{Notes};
+ghost use Rattle.kb_gateway.specs.Answers.{said_of_ask, said_of_look_up};
+ghost use Rattle.kb_gateway.specs.ListGateways.{begun, list_told, new_gateway, next_told, next_seen};
 
 use crate::gateway::Gateway;
-use crate::order::{Asked, Order};
+use crate::order::Order;
 use crate::told::{Call, Heard, Saying, Seen, Told};
 use kb_base::Failed;
 use kb_ports::Calls;
@@ -25,7 +27,7 @@ pub struct ListGateway {
     /// How many of the answers to look-ups were given.
     looks: usize,
     calls: Calls,
-    asked: Option<Vec<Asked>>,
+    asked: Option<Vec<Order>>,
     said: Option<Vec<Saying>>,
 }
 
@@ -83,7 +85,7 @@ impl ListGateway {
     }
 
     /// The orders that were asked, failed ones too; none once a note found no memory.
-    pub fn asked(&self) -> Option<&[Asked]>
+    pub fn asked(&self) -> Option<&[Order]>
         ensures { option_map (λ asked. asked.now) result ≡ self.now.asked }
     {
         match &self.asked {
@@ -111,14 +113,18 @@ impl ListGateway {
 
     /// Notes that an order is asked.
     fn note_asked(&mut self, order: &Order)
-        ensures noted { Notes self.old.asked (asked_of order.now) self.new.asked }
+        ensures noted { Notes self.old.asked order.now self.new.asked }
         ensures others { self.new ≡ record self.old { asked = self.new.asked } }
     {
-        let asked = Asked {
-            account: order.account,
-            key: order.key,
-        };
-        note(&mut self.asked, asked);
+        note(&mut self.asked, *order);
+    }
+
+    /// Tells no more what was asked and said so far.
+    pub(crate) fn begin(&mut self)
+        ensures { self.new ≡ begun self.old }
+    {
+        clear(&mut self.asked);
+        clear(&mut self.said);
     }
 
     /// Notes what was heard at a call.
@@ -218,16 +224,25 @@ where
     }
 }
 
+/// Takes all notes away, if there are any.
+fn clear<T>(notes: &mut Option<Vec<T>>)
+where
+    T: Drop,
+    ensures { option_map (λ all. all.items) notes.new ≡ option_map (λ all. []) notes.old }
+{
+    match notes {
+        Some(all) => all.clear(),
+        None => {}
+    }
+}
+
 impl Gateway for ListGateway {
-    ghost asked = { λ gateway. gateway.asked };
-
-    ghost said = { λ gateway. gateway.said };
-
-    ghost faults = { λ gateway. gateway.faults };
+    ghost told = { list_told };
 
     /// Gives the next answer to an order. It fails too from the call on for whose note memory ran out.
     fn ask(&mut self, order: &Order) -> Result<Told, Failed>
-        ensures asked { Notes self.old.asked (asked_of order.now) self.new.asked }
+        ensures asked { Notes self.old.asked order.now self.new.asked }
+        ensures kept { OnOk result (IsSome self.new.asked × IsSome self.new.said) }
         ensures said { Notes self.old.said (said_of_ask order.now result) self.new.said }
         ensures cause { HasCause self.old.faults self.new.faults result }
         ensures calm { OnOk result (self.new.faults ≡ self.old.faults) }
@@ -257,6 +272,7 @@ impl Gateway for ListGateway {
     /// Gives the next answer to a look-up. It fails too from the call on for whose note memory ran out.
     fn look_up(&mut self, order: &Order) -> Result<Seen, Failed>
         ensures asked { self.new.asked ≡ self.old.asked }
+        ensures kept { OnOk result (IsSome self.new.asked × IsSome self.new.said) }
         ensures said { Notes self.old.said (said_of_look_up order.now result) self.new.said }
         ensures cause { HasCause self.old.faults self.new.faults result }
         ensures calm { OnOk result (self.new.faults ≡ self.old.faults) }

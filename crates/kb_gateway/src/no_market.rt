@@ -1,5 +1,6 @@
 //! A market for runs that ask for no money.
-ghost use Rattle.std.specs.Prelude.{◌≡◌, ⊤, None, Ok, IfOk, IsOk};
+ghost use Rattle.std.specs.Prelude.{◌≡◌, ⊤, Ok, IfOk, IsOk};
+ghost use Rattle.kb_gateway.specs.Told.{canceling, no_market_told};
 ghost use Rattle.kb_gateway.specs.declared.told.Told.TheVariants as told;
 ghost use Rattle.kb_gateway.specs.declared.told.Seen.TheVariants as seen;
 
@@ -14,11 +15,7 @@ use kb_base::Failed;
 pub struct NoGateway;
 
 impl Gateway for NoGateway {
-    ghost asked = { λ gateway. None };
-
-    ghost said = { λ gateway. None };
-
-    ghost faults = { λ gateway. 0 };
+    ghost told = { canceling };
 
     fn ask(&mut self, order: &Order) -> Result<Told, Failed>
         ensures { result ≡ Ok told.Canceled }
@@ -40,7 +37,7 @@ pub struct NoMarket;
 impl Market for NoMarket {
     type Gateway = NoGateway;
 
-    ghost faults = { λ market. 0 };
+    ghost told = { λ market. no_market_told };
 
     ghost serves = { λ gateway name lane. ⊤ };
 
@@ -50,4 +47,6 @@ impl Market for NoMarket {
     {
         Ok(NoGateway)
     }
+
+    fn back(&mut self, lane: u32, gateway: NoGateway) {}
 }

@@ -6,7 +6,7 @@ use kb_payment::Kind;
 use uuid::Uuid;
 
 /// An order to move money.
-#[derive(Clone, Copy, Debug, Drop)]
+#[derive(Clone, Copy, Debug, PartialEq, Eq, Drop)]
 pub struct Order {
     pub account: Name,
     /// The payment key, of which the account has one attempt.
@@ -19,7 +19,7 @@ pub struct Order {
     pub currency: Currency,
 }
 
-/// An order that was asked, by its account and payment key.
+/// A payment that an order is of, by its account and payment key.
 #[derive(Clone, Copy, Debug, PartialEq, Eq, Drop)]
 pub struct Asked {
     pub account: Name,

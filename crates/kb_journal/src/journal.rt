@@ -69,7 +69,7 @@ impl<D: Disk> Model for Journal<D> {
       stopped = journal.stopped;
     } };
 
-    ghost invariant = { λ journal. IsSound D.honest D.seen (record {
+    ghost invariant = { λ journal. IsSound D.told.honest D.told.seen (record {
       disk = journal.disk;
       lanes = journal.lanes;
       lane = journal.lane;
@@ -86,8 +86,8 @@ impl<D: Disk> Journal<D> {
         requires some_lanes { 1 ≤ lanes }
         requires few_lanes { lanes ≤ 64 }
         requires one_of_them { lane < lanes }
-        ensures holds { IsTrue (D.honest disk) → IfOk result (λ journal.
-            Holds D.honest D.seen D.images journal []) }
+        ensures holds { IsTrue (D.told.honest disk) → IfOk result (λ journal.
+            Holds D.told.honest D.told.seen D.told.images journal []) }
         ensures made { IfOk result (λ journal. journal ≡ record {
           disk = journal.disk;
           lanes = lanes;
@@ -96,25 +96,28 @@ impl<D: Disk> Journal<D> {
           gate = 16;
           stopped = false;
         }) }
-        ensures empty { IsTrue (D.honest disk) → OnOk result (D.seen disk ≡ []) }
+        ensures empty { IsTrue (D.told.honest disk) → OnOk result (D.told.seen disk ≡ []) }
         ensures refused { IfErr result (λ refused.
-            RefusesToCreate D.honest D.seen D.images D.fault_count disk refused.0 refused.1) }
-        ensures same { IsTrue (D.honest disk) → 0 < length (D.seen disk)
-            → IfErr result (λ refused. D.seen refused.1 ≡ D.seen disk) }
-        ensures unwritten { IsTrue (D.honest disk) → 0 < length (D.seen disk) → IfErr result (λ refused.
-            IsUnwritten D.honest D.images D.moment D.left_since D.fault_count disk refused.1) }
-        ensures unharmed { IsTrue (D.honest disk) → Only (D.seen disk) (D.images disk)
-            → IfErr result (λ refused. HasOrBegins lanes lane [] (D.seen disk) (D.seen refused.1)) }
-        ensures moments { IsTrue (D.honest disk) → Only (D.seen disk) (D.images disk)
-            → IfOk result (λ journal. AtEachMoment D.moment D.left_since disk journal.disk
-            (HasOrBegins lanes lane [] (D.seen disk))) }
-        ensures moments_too { IsTrue (D.honest disk) → Only (D.seen disk) (D.images disk)
-            → IfErr result (λ refused. AtEachMoment D.moment D.left_since disk refused.1
-            (HasOrBegins lanes lane [] (D.seen disk))) }
-        ensures honesty { IfOk result (λ journal. D.honest journal.disk ≡ D.honest disk) }
-        ensures same_honesty { IfErr result (λ refused. D.honest refused.1 ≡ D.honest disk) }
-        ensures calm { IfOk result (λ journal. D.fault_count journal.disk ≡ D.fault_count disk) }
-        ensures rising { IfErr result (λ refused. D.fault_count disk ≤ D.fault_count refused.1) }
+            RefusesToCreate D.told.honest D.told.seen D.told.images D.told.fault_count disk refused.0
+            refused.1) }
+        ensures same { IsTrue (D.told.honest disk) → 0 < length (D.told.seen disk)
+            → IfErr result (λ refused. D.told.seen refused.1 ≡ D.told.seen disk) }
+        ensures unwritten { IsTrue (D.told.honest disk) → 0 < length (D.told.seen disk) → IfErr result
+            (λ refused.
+            IsUnwritten D.told.honest D.told.images D.told.moment D.told.left_since D.told.fault_count disk
+            refused.1) }
+        ensures unharmed { IsTrue (D.told.honest disk) → Only (D.told.seen disk) (D.told.images disk)
+            → IfErr result (λ refused. HasOrBegins lanes lane [] (D.told.seen disk) (D.told.seen refused.1)) }
+        ensures moments { IsTrue (D.told.honest disk) → Only (D.told.seen disk) (D.told.images disk)
+            → IfOk result (λ journal. AtEachMoment D.told.moment D.told.left_since disk journal.disk
+            (HasOrBegins lanes lane [] (D.told.seen disk))) }
+        ensures moments_too { IsTrue (D.told.honest disk) → Only (D.told.seen disk) (D.told.images disk)
+            → IfErr result (λ refused. AtEachMoment D.told.moment D.told.left_since disk refused.1
+            (HasOrBegins lanes lane [] (D.told.seen disk))) }
+        ensures honesty { IfOk result (λ journal. D.told.honest journal.disk ≡ D.told.honest disk) }
+        ensures same_honesty { IfErr result (λ refused. D.told.honest refused.1 ≡ D.told.honest disk) }
+        ensures calm { IfOk result (λ journal. D.told.fault_count journal.disk ≡ D.told.fault_count disk) }
+        ensures rising { IfErr result (λ refused. D.told.fault_count disk ≤ D.told.fault_count refused.1) }
     {
         let mut disk = disk;
         match disk.size() {
@@ -139,11 +142,12 @@ impl<D: Disk> Journal<D> {
     /// written. The bytes of the disk are read into memory once, and the records stay in them. A fault gives
     /// the disk back.
     pub fn load(alloc: Global, disk: D, lane: u16) -> Result<(Journal<D>, Records), (LoadFault, D)>
-        ensures holds { IsTrue (D.honest disk) → IfOk result (λ loaded.
-            Holds D.honest D.seen D.images loaded.0 loaded.1) }
-        ensures seen { IsTrue (D.honest disk) → IfOk result (λ loaded. D.seen loaded.0.disk ≡ D.seen disk) }
-        ensures seen_too { IsTrue (D.honest disk) → Only (D.seen disk) (D.images disk)
-            → IfErr result (λ refused. D.seen refused.1 ≡ D.seen disk) }
+        ensures holds { IsTrue (D.told.honest disk) → IfOk result (λ loaded.
+            Holds D.told.honest D.told.seen D.told.images loaded.0 loaded.1) }
+        ensures seen { IsTrue (D.told.honest disk) → IfOk result
+            (λ loaded. D.told.seen loaded.0.disk ≡ D.told.seen disk) }
+        ensures seen_too { IsTrue (D.told.honest disk) → Only (D.told.seen disk) (D.told.images disk)
+            → IfErr result (λ refused. D.told.seen refused.1 ≡ D.told.seen disk) }
         ensures made { IfOk result (λ loaded. loaded.0 ≡ record loaded.0 {
           lane = lane;
           count = length loaded.1;
@@ -152,14 +156,16 @@ impl<D: Disk> Journal<D> {
         ensures some_lanes { IfOk result (λ loaded. 1 ≤ loaded.0.lanes) }
         ensures few_lanes { IfOk result (λ loaded. loaded.0.lanes ≤ 64) }
         ensures refused { IfErr result (λ refused.
-            RefusesToLoad D.honest D.seen D.fault_count lane disk refused.0 refused.1) }
-        ensures exact { IsTrue (D.honest disk) → (at : ℕ) → IsNoJournal lane (D.seen disk) at
+            RefusesToLoad D.told.honest D.told.seen D.told.fault_count lane disk refused.0 refused.1) }
+        ensures exact { IsTrue (D.told.honest disk) → (at : ℕ) → IsNoJournal lane (D.told.seen disk) at
             → MatchResult result (λ _. ⊥) (λ refused. TellsPlace at refused.0) }
         ensures unwritten { IfOk result (λ loaded.
-            IsUnwritten D.honest D.images D.moment D.left_since D.fault_count disk loaded.0.disk) }
+            IsUnwritten D.told.honest D.told.images D.told.moment D.told.left_since D.told.fault_count disk
+            loaded.0.disk) }
         ensures unwritten_too { IfErr result (λ refused.
-            IsUnwritten D.honest D.images D.moment D.left_since D.fault_count disk refused.1) }
-        ensures calm { IfOk result (λ loaded. D.fault_count loaded.0.disk ≡ D.fault_count disk) }
+            IsUnwritten D.told.honest D.told.images D.told.moment D.told.left_since D.told.fault_count disk
+            refused.1) }
+        ensures calm { IfOk result (λ loaded. D.told.fault_count loaded.0.disk ≡ D.told.fault_count disk) }
     {
         let mut disk = disk;
         let bytes = match read_synced(alloc, &mut disk) {
@@ -205,7 +211,7 @@ impl<D: Disk> Journal<D> {
 
     /// How many calls of the disk have failed.
     pub fn faults(&self) -> u128
-        ensures { result ≡ D.fault_count self.now.disk }
+        ensures { result ≡ D.told.fault_count self.now.disk }
     {
         self.disk.faults() as u128
     }
@@ -213,10 +219,13 @@ impl<D: Disk> Journal<D> {
     /// Adds a record and gives its number, counted from 0.
     pub fn append(&mut self, bytes: &[u8]) -> Result<u32, AppendFault>
         requires sized { IsSized bytes.now }
-        ensures acknowledged { (records : List (List ℕ)) → Holds D.honest D.seen D.images self.old records
-            → OnOk result (Holds D.honest D.seen D.images self.new (records ++ bytes.now ∷ [])) }
-        ensures moments { (records : List (List ℕ)) → Holds D.honest D.seen D.images self.old records
-            → AtEachMoment D.moment D.left_since self.old.disk self.new.disk
+        ensures acknowledged { (records : List (List ℕ)) → Holds D.told.honest D.told.seen D.told.images
+            self.old records
+            → OnOk result (Holds D.told.honest D.told.seen D.told.images self.new
+            (records ++ bytes.now ∷ [])) }
+        ensures moments { (records : List (List ℕ)) → Holds D.told.honest D.told.seen D.told.images self.old
+            records
+            → AtEachMoment D.told.moment D.told.left_since self.old.disk self.new.disk
             (IsWithOrWithout self.old.lanes self.old.lane records bytes.now) }
         ensures number { IfOk result (λ number. number ≡ self.old.count) }
         ensures counted { OnOk result (self.new.count ≡ self.old.count + 1) }
@@ -228,14 +237,14 @@ impl<D: Disk> Journal<D> {
             ↔ ((self.old.stopped ≡ false) × IsFull self.old (length bytes.now)
             × (commands ≡ self.old.count) × (size ≡ self.old.gate + 1)) }
         ensures cause { IsErrOf result DiskFault
-            → Rose (D.fault_count self.old.disk) (D.fault_count self.new.disk) }
+            → Rose (D.told.fault_count self.old.disk) (D.told.fault_count self.new.disk) }
         ensures untouched { self.old.stopped ≡ true → self.new ≡ self.old }
         ensures unfilled { IsFull self.old (length bytes.now) → self.new ≡ self.old }
         ensures failed { OnErr result (self.new.count ≡ self.old.count) }
         ensures same { (self.new.lanes ≡ self.old.lanes) × (self.new.lane ≡ self.old.lane) }
-        ensures honesty { D.honest self.new.disk ≡ D.honest self.old.disk }
-        ensures calm { OnOk result (D.fault_count self.new.disk ≡ D.fault_count self.old.disk) }
-        ensures rising { D.fault_count self.old.disk ≤ D.fault_count self.new.disk }
+        ensures honesty { D.told.honest self.new.disk ≡ D.told.honest self.old.disk }
+        ensures calm { OnOk result (D.told.fault_count self.new.disk ≡ D.told.fault_count self.old.disk) }
+        ensures rising { D.told.fault_count self.old.disk ≤ D.told.fault_count self.new.disk }
     {
         if self.stopped {
             return Err(AppendFault::Stopped(self.count));

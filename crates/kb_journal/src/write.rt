@@ -12,17 +12,18 @@ use kb_disk::Disk;
 
 /// Writes bytes at a place and syncs.
 pub fn write_through<D: Disk>(disk: &mut D, at: u64, bytes: &[u8]) -> Result<(), Failed>
-    requires in_range { IsTrue (D.honest disk.old) → at ≤ length (D.seen disk.old) }
-    ensures written { IsTrue (D.honest disk.old)
-        → OnOk result (D.seen disk.new ≡ overwritten (D.seen disk.old) at bytes.now) }
-    ensures durable { IsTrue (D.honest disk.old) → OnOk result (Only (D.seen disk.new) (D.images disk.new)) }
-    ensures moments { Only (D.seen disk.old) (D.images disk.old)
-        → AtEachMoment D.moment D.left_since disk.old disk.new
-        (Torn at (length bytes.now) (D.seen disk.old)) }
-    ensures honesty { D.honest disk.new ≡ D.honest disk.old }
-    ensures cause { HasCause (D.fault_count disk.old) (D.fault_count disk.new) result }
-    ensures calm { OnOk result (D.fault_count disk.new ≡ D.fault_count disk.old) }
-    ensures rising { D.fault_count disk.old ≤ D.fault_count disk.new }
+    requires in_range { IsTrue (D.told.honest disk.old) → at ≤ length (D.told.seen disk.old) }
+    ensures written { IsTrue (D.told.honest disk.old)
+        → OnOk result (D.told.seen disk.new ≡ overwritten (D.told.seen disk.old) at bytes.now) }
+    ensures durable { IsTrue (D.told.honest disk.old) → OnOk result
+        (Only (D.told.seen disk.new) (D.told.images disk.new)) }
+    ensures moments { Only (D.told.seen disk.old) (D.told.images disk.old)
+        → AtEachMoment D.told.moment D.told.left_since disk.old disk.new
+        (Torn at (length bytes.now) (D.told.seen disk.old)) }
+    ensures honesty { D.told.honest disk.new ≡ D.told.honest disk.old }
+    ensures cause { HasCause (D.told.fault_count disk.old) (D.told.fault_count disk.new) result }
+    ensures calm { OnOk result (D.told.fault_count disk.new ≡ D.told.fault_count disk.old) }
+    ensures rising { D.told.fault_count disk.old ≤ D.told.fault_count disk.new }
 {
     if let Err(failed) = disk.write_at(at, bytes) {
         return Err(failed);
@@ -34,21 +35,22 @@ pub fn write_through<D: Disk>(disk: &mut D, at: u64, bytes: &[u8]) -> Result<(),
 pub fn write_record<D: Disk>(disk: &mut D, gate: u64, bytes: &[u8]) -> Result<(), Failed>
     requires sized { IsSized bytes.now }
     requires in_range { gate < 2 ^ 63 }
-    requires there { IsTrue (D.honest disk.old) → gate + 1 ≤ length (D.seen disk.old) }
+    requires there { IsTrue (D.told.honest disk.old) → gate + 1 ≤ length (D.told.seen disk.old) }
     ensures kept { (lanes lane : ℕ) (records : List (List ℕ))
-        → Keeps D.honest D.seen D.images disk.old lanes lane gate records
-        → OnOk result (Keeps D.honest D.seen D.images disk.new lanes lane (gate + (length bytes.now + 5))
+        → Keeps D.told.honest D.told.seen D.told.images disk.old lanes lane gate records
+        → OnOk result (Keeps D.told.honest D.told.seen D.told.images disk.new lanes lane
+        (gate + (length bytes.now + 5))
         (records ++ bytes.now ∷ [])) }
     ensures moments { (lanes lane : ℕ) (records : List (List ℕ))
-        → Keeps D.honest D.seen D.images disk.old lanes lane gate records
-        → AtEachMoment D.moment D.left_since disk.old disk.new
+        → Keeps D.told.honest D.told.seen D.told.images disk.old lanes lane gate records
+        → AtEachMoment D.told.moment D.told.left_since disk.old disk.new
         (IsWithOrWithout lanes lane records bytes.now) }
-    ensures room { IsTrue (D.honest disk.old)
-        → OnOk result (gate + length bytes.now + 6 ≤ length (D.seen disk.new)) }
-    ensures honesty { D.honest disk.new ≡ D.honest disk.old }
-    ensures cause { HasCause (D.fault_count disk.old) (D.fault_count disk.new) result }
-    ensures calm { OnOk result (D.fault_count disk.new ≡ D.fault_count disk.old) }
-    ensures rising { D.fault_count disk.old ≤ D.fault_count disk.new }
+    ensures room { IsTrue (D.told.honest disk.old)
+        → OnOk result (gate + length bytes.now + 6 ≤ length (D.told.seen disk.new)) }
+    ensures honesty { D.told.honest disk.new ≡ D.told.honest disk.old }
+    ensures cause { HasCause (D.told.fault_count disk.old) (D.told.fault_count disk.new) result }
+    ensures calm { OnOk result (D.told.fault_count disk.new ≡ D.told.fault_count disk.old) }
+    ensures rising { D.told.fault_count disk.old ≤ D.told.fault_count disk.new }
 {
     if let Err(failed) = write_block(disk, gate + 1, bytes) {
         return Err(failed);
@@ -64,17 +66,19 @@ const SHORT_RECORD: usize = 507;
 /// filled with zeros first.
 fn write_block<D: Disk>(disk: &mut D, at: u64, bytes: &[u8]) -> Result<(), Failed>
     requires sized { IsSized bytes.now }
-    requires in_range { IsTrue (D.honest disk.old) → at ≤ length (D.seen disk.old) }
-    ensures written { IsTrue (D.honest disk.old)
-        → OnOk result (D.seen disk.new ≡ overwritten (D.seen disk.old) at (framed bytes.now ++ 0 ∷ [])) }
-    ensures durable { IsTrue (D.honest disk.old) → OnOk result (Only (D.seen disk.new) (D.images disk.new)) }
-    ensures moments { Only (D.seen disk.old) (D.images disk.old)
-        → AtEachMoment D.moment D.left_since disk.old disk.new
-        (Torn at (length bytes.now + 5) (D.seen disk.old)) }
-    ensures honesty { D.honest disk.new ≡ D.honest disk.old }
-    ensures cause { HasCause (D.fault_count disk.old) (D.fault_count disk.new) result }
-    ensures calm { OnOk result (D.fault_count disk.new ≡ D.fault_count disk.old) }
-    ensures rising { D.fault_count disk.old ≤ D.fault_count disk.new }
+    requires in_range { IsTrue (D.told.honest disk.old) → at ≤ length (D.told.seen disk.old) }
+    ensures written { IsTrue (D.told.honest disk.old)
+        → OnOk result (D.told.seen disk.new ≡ overwritten (D.told.seen disk.old) at
+        (framed bytes.now ++ 0 ∷ [])) }
+    ensures durable { IsTrue (D.told.honest disk.old) → OnOk result
+        (Only (D.told.seen disk.new) (D.told.images disk.new)) }
+    ensures moments { Only (D.told.seen disk.old) (D.told.images disk.old)
+        → AtEachMoment D.told.moment D.told.left_since disk.old disk.new
+        (Torn at (length bytes.now + 5) (D.told.seen disk.old)) }
+    ensures honesty { D.told.honest disk.new ≡ D.told.honest disk.old }
+    ensures cause { HasCause (D.told.fault_count disk.old) (D.told.fault_count disk.new) result }
+    ensures calm { OnOk result (D.told.fault_count disk.new ≡ D.told.fault_count disk.old) }
+    ensures rising { D.told.fault_count disk.old ≤ D.told.fault_count disk.new }
 {
     if bytes.len() <= SHORT_RECORD {
         return write_in(disk, at, &mut [0; SHORT_RECORD + 5], bytes);
@@ -86,17 +90,19 @@ fn write_block<D: Disk>(disk: &mut D, at: u64, bytes: &[u8]) -> Result<(), Faile
 fn write_in<D: Disk>(disk: &mut D, at: u64, room: &mut [u8], bytes: &[u8]) -> Result<(), Failed>
     requires sized { IsSized bytes.now }
     requires fits { length bytes.now + 5 ≤ length room.old }
-    requires in_range { IsTrue (D.honest disk.old) → at ≤ length (D.seen disk.old) }
-    ensures written { IsTrue (D.honest disk.old)
-        → OnOk result (D.seen disk.new ≡ overwritten (D.seen disk.old) at (framed bytes.now ++ 0 ∷ [])) }
-    ensures durable { IsTrue (D.honest disk.old) → OnOk result (Only (D.seen disk.new) (D.images disk.new)) }
-    ensures moments { Only (D.seen disk.old) (D.images disk.old)
-        → AtEachMoment D.moment D.left_since disk.old disk.new
-        (Torn at (length bytes.now + 5) (D.seen disk.old)) }
-    ensures honesty { D.honest disk.new ≡ D.honest disk.old }
-    ensures cause { HasCause (D.fault_count disk.old) (D.fault_count disk.new) result }
-    ensures calm { OnOk result (D.fault_count disk.new ≡ D.fault_count disk.old) }
-    ensures rising { D.fault_count disk.old ≤ D.fault_count disk.new }
+    requires in_range { IsTrue (D.told.honest disk.old) → at ≤ length (D.told.seen disk.old) }
+    ensures written { IsTrue (D.told.honest disk.old)
+        → OnOk result (D.told.seen disk.new ≡ overwritten (D.told.seen disk.old) at
+        (framed bytes.now ++ 0 ∷ [])) }
+    ensures durable { IsTrue (D.told.honest disk.old) → OnOk result
+        (Only (D.told.seen disk.new) (D.told.images disk.new)) }
+    ensures moments { Only (D.told.seen disk.old) (D.told.images disk.old)
+        → AtEachMoment D.told.moment D.told.left_since disk.old disk.new
+        (Torn at (length bytes.now + 5) (D.told.seen disk.old)) }
+    ensures honesty { D.told.honest disk.new ≡ D.told.honest disk.old }
+    ensures cause { HasCause (D.told.fault_count disk.old) (D.told.fault_count disk.new) result }
+    ensures calm { OnOk result (D.told.fault_count disk.new ≡ D.told.fault_count disk.old) }
+    ensures rising { D.told.fault_count disk.old ≤ D.told.fault_count disk.new }
 {
     fill_block(room, bytes);
     write_through(disk, at, &room[..bytes.len() + 5])

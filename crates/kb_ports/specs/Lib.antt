@@ -1,4 +1,5 @@
 pub mod Doors
 pub mod Memory
 pub mod NamedDays
+pub mod Notes
 pub mod Pairs

@@ -53,17 +53,14 @@ impl FileDisk {
 }
 
 impl Disk for FileDisk {
-    ghost honest = { λ _. false };
-
-    ghost seen = { λ _. [] };
-
-    ghost images = { λ _ _. IsTrue false };
-
-    ghost moment = { λ _. 0 };
-
-    ghost left_since = { λ _ _ _. IsTrue false };
-
-    ghost fault_count = { λ disk. disk };
+    ghost told = { record {
+      honest = λ _. false;
+      seen = λ _. [];
+      images = λ _ _. IsTrue false;
+      moment = λ _. 0;
+      left_since = λ _ _ _. IsTrue false;
+      fault_count = λ disk. disk;
+    } };
 
     fn size(&mut self) -> Result<u64, Failed>
         ensures cause { HasCause self.old self.new result }

@@ -76,13 +76,13 @@ impl<'a, R: Files<File = File>> FolderVault<'a, R> {
 impl<R: Files<File = File>> Vault for FolderVault<'_, R> {
     type Disk = FileDisk;
 
-    ghost is_out = { λ vault. is_among vault.out };
-
-    ghost lane_bytes = { λ _ _ _. None };
-
-    ghost file_bytes = { λ _ _. None };
-
-    ghost faults = { λ vault. vault.faults };
+    ghost told = { λ vault. record {
+      is_out = is_among vault.out;
+      lane_bytes = λ _ _. None;
+      came_back = λ _ _. None;
+      file_bytes = λ _. None;
+      faults = vault.faults;
+    } };
 
     /// Opens the file of a lane, and makes an empty one where there is none. The folder must be there. It
     /// fails while another program has the lane.

@@ -1,7 +1,8 @@
 //! Gateways that are asked over TCP.
-ghost use Rattle.std.specs.Prelude.{◌≡◌, ◌≤◌, ⊤, IfOk, OnOk};
+ghost use Rattle.std.specs.Prelude.{◌≡◌, ◌≤◌, ⊤, None, IfOk, OnOk};
 ghost use Rattle.kb_base.specs.Faults.{HasCause};
-ghost use Rattle.kb_gateway.specs.Exchanges.{new_value};
+ghost use Rattle.kb_gateway.specs.Exchanges.{line_told, new_value};
+ghost use Rattle.kb_gateway.specs.Told.{IsUnasked};
 
 use crate::tcp_link::TcpLink;
 use kb_base::{Failed, FaultCount};
@@ -46,7 +47,7 @@ impl<'a, R: Net<Listener = TcpListener, Stream = TcpStream>> LineMarket<'a, R> {
 impl<R: Net<Listener = TcpListener, Stream = TcpStream>> Market for LineMarket<'_, R> {
     type Gateway = LineGateway<TcpLink>;
 
-    ghost faults = { λ market. market };
+    ghost told = { λ market. record { faults = market; came_back = λ _. None } };
 
     ghost serves = { λ gateway name lane. ⊤ };
 
@@ -54,6 +55,7 @@ impl<R: Net<Listener = TcpListener, Stream = TcpStream>> Market for LineMarket<'
     /// where the name is none or isn't known, and where nobody answers there.
     fn gateway(&mut self, name: &str, lane: u32) -> Result<LineGateway<TcpLink>, Failed>
         ensures served { IfOk result (λ _. ⊤) }
+        ensures unasked { IfOk result (IsUnasked line_told) }
         ensures cause { HasCause self.old self.new result }
         ensures calm { OnOk result (self.new ≡ self.old) }
         ensures rising { self.old ≤ self.new }
@@ -64,4 +66,7 @@ impl<R: Net<Listener = TcpListener, Stream = TcpStream>> Market for LineMarket<'
             Err(_) => Err(self.faults.fail()),
         }
     }
+
+    /// Closes the connection.
+    fn back(&mut self, lane: u32, gateway: LineGateway<TcpLink>) {}
 }

@@ -7,8 +7,8 @@ use Rattle.kb_journal.proofs.journal.Journal.create.Goals as goal
 
 pub returns-clause-holds : goal.returns-clause-holds
 returns-clause-holds g c honest =
-    let middle : IsTrue (g.D.Disk.honest c.size.new.self) = c.size.ensures.honesty ∙ honest in
-    let none : length (g.D.Disk.seen c.size.new.self) ≡ 0 =
+    let middle : IsTrue (g.D.Disk.told.honest c.size.new.self) = c.size.ensures.honesty ∙ honest in
+    let none : length (g.D.Disk.told.seen c.size.new.self) ≡ 0 =
     omega (arith, ap length (c.size.ensures.seen honest), c.in-Ok-eq0.ensures.size honest) in
     record {
       running = refl;
@@ -24,7 +24,8 @@ returns-clause-holds g c honest =
 
 pub returns-clause-moments : goal.returns-clause-moments
 returns-clause-moments g c honest only =
-    begins_at_each_moment g.D.Disk.seen g.D.Disk.images g.D.Disk.moment g.D.Disk.left_since c.args.lanes
+    begins_at_each_moment g.D.Disk.told.seen g.D.Disk.told.images g.D.Disk.told.moment
+    g.D.Disk.told.left_since c.args.lanes
     c.args.lane [] (length c.header_block.result) c.args.disk c.size.new.self c.write_through.new.disk
     (g.met.D.Disk.only_now c.args.disk) c.size.ensures.time c.size.ensures.crash only
     (c.size.ensures.seen honest)
@@ -33,7 +34,8 @@ returns-clause-moments g c honest only =
 
 pub returns-in-Err-write_through-clause-moments_too : goal.returns-in-Err-write_through-clause-moments_too
 returns-in-Err-write_through-clause-moments_too g c honest only =
-    begins_at_each_moment g.D.Disk.seen g.D.Disk.images g.D.Disk.moment g.D.Disk.left_since c.args.lanes
+    begins_at_each_moment g.D.Disk.told.seen g.D.Disk.told.images g.D.Disk.told.moment
+    g.D.Disk.told.left_since c.args.lanes
     c.args.lane [] (length c.header_block.result) c.args.disk c.size.new.self c.write_through.new.disk
     (g.met.D.Disk.only_now c.args.disk) c.size.ensures.time c.size.ensures.crash only
     (c.size.ensures.seen honest)
@@ -42,9 +44,11 @@ returns-in-Err-write_through-clause-moments_too g c honest only =
 
 pub returns-in-Err-write_through-clause-unharmed : goal.returns-in-Err-write_through-clause-unharmed
 returns-in-Err-write_through-clause-unharmed g c honest only =
-    let middle : IsTrue (g.D.Disk.honest c.size.new.self) = c.size.ensures.honesty ∙ honest in
-    let P : List ℕ → Type 0 = HasOrBegins c.args.lanes c.args.lane [] (g.D.Disk.seen c.args.disk) in
-    now_has g.D.Disk.moment g.D.Disk.left_since g.D.Disk.images c.args.disk c.write_through.new.disk P
+    let middle : IsTrue (g.D.Disk.told.honest c.size.new.self) = c.size.ensures.honesty ∙ honest in
+    let P : List ℕ → Type 0 = HasOrBegins c.args.lanes c.args.lane [] (g.D.Disk.told.seen c.args.disk) in
+    now_has g.D.Disk.told.moment g.D.Disk.told.left_since g.D.Disk.told.images c.args.disk
+    c.write_through.new.disk P
     (g.met.D.Disk.counts_now c.write_through.new.disk)
-    (returns-in-Err-write_through-clause-moments_too g c honest only) (g.D.Disk.seen c.write_through.new.disk)
+    (returns-in-Err-write_through-clause-moments_too g c honest only)
+    (g.D.Disk.told.seen c.write_through.new.disk)
     (g.met.D.Disk.seen_is_image c.write_through.new.disk (c.write_through.ensures.honesty ∙ middle))
