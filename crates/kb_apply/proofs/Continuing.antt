@@ -69,14 +69,16 @@ module _ {L : Type 0} (Goes : L → L → Type 0) (stays : (lane : L) → Goes l
 
 module _ {D G C : Type 0} (outside : Outside D G C) where
   abbrev GoesOn : LaneValue D G → LaneValue D G → Type 0
-  GoesOn lane next = Continues outside.honest outside.moment outside.left_since outside.fault_count lane next
+  GoesOn lane next = Continues outside.disks.honest outside.disks.moment outside.disks.left_since
+      outside.disks.fault_count lane next
 
   abbrev GoOn : LanesValue D G C → LanesValue D G C → Type 0
   GoOn old new = ContinueAll GoesOn old.lanes new.lanes
 
   stays : (lane : LaneValue D G) → GoesOn lane lane
   stays lane = record {
-    well = well_none outside.honest outside.moment outside.left_since lane.log lane.log refl;
+    well = well_none outside.disks.honest outside.disks.moment outside.disks.left_since lane.log lane.log
+        refl;
     itself = record {
       lanes = refl;
       lane = refl;
@@ -90,10 +92,12 @@ module _ {D G C : Type 0} (outside : Outside D G C) where
 
   goes_then : (one two three : LaneValue D G) → GoesOn one two → GoesOn two three → GoesOn one three
   goes_then one two three first second = record {
-    well = well_then outside.honest outside.moment outside.left_since one.log two.log three.log
+    well = well_then outside.disks.honest outside.disks.moment outside.disks.left_since one.log two.log
+        three.log
         first.well second.well
         first.itself.as_honest second.itself.lanes second.itself.lane;
-    itself = itself_then outside.honest outside.fault_count one two three first.itself second.itself;
+    itself = itself_then outside.disks.honest outside.disks.fault_count one two three first.itself
+        second.itself;
   }
 
   none : (old new : LanesValue D G C) → new ≡ old → GoOn old new

@@ -2,8 +2,8 @@
 use Rattle.std.specs.Prelude.{ℕ, zero, suc, ◌+◌, ◌-◌, ◌≡◌, ◌⊎◌, ◌||◌, Bool, true, false, List, length}
 use Rattle.std.specs.Prelude.{slice_get, Option, Some, Result, Ok, Err, ⊤}
 use Rattle.kb_base.specs.Machine.{Machine}
-use Rattle.kb_gateway.specs.declared.order.Asked.{Asked}
-use Rattle.kb_gateway.specs.declared.told.Saying.{Saying}
+use Rattle.kb_disk.specs.Told.{DiskTold}
+use Rattle.kb_gateway.specs.Told.{GatewayTold}
 use Rattle.kb_codec.specs.declared.command.Command.{Command}
 use Rattle.kb_book.specs.declared.refusal.Refusal.{Refusal}
 use Rattle.kb_book.specs.declared.query.Query.{Query}
@@ -33,31 +33,14 @@ use Rattle.kb_json.specs.declared.said.Said.{Said}
 use Rattle.kb_json.specs.declared.said.Said.TheVariants as says
 use Rattle.kb_json.specs.Telling.{Says, IsPartOf}
 
--- What is told of disks, gateways and a clock: whether a disk is honest, how many moments it had, what a
--- crash since one may leave, and how often it failed; what a gateway was asked and said, and how often it
--- failed; and the day that a clock gives, if it is always the same.
+-- What is told of disks, gateways and a clock; of the clock, the day that it gives, if it is always the same.
 pub record Outside (D G C : Type 0) : Type 1 where
-  pub honest : D → Bool
-  pub moment : D → ℕ
-  pub left_since : D → ℕ → List ℕ → Type 0
-  pub fault_count : D → ℕ
-  pub asked : G → Option (List Asked)
-  pub said : G → Option (List Saying)
-  pub faults : G → ℕ
+  pub disks : DiskTold D
+  pub gateways : GatewayTold G
   pub day : C → Option ℕ
 
-abbrev pub outside_of : {D G C : Type 0} → (D → Bool) → (D → ℕ) → (D → ℕ → List ℕ → Type 0) → (D → ℕ)
-    → (G → Option (List Asked)) → (G → Option (List Saying)) → (G → ℕ) → (C → Option ℕ) → Outside D G C
-outside_of honest moment left_since fault_count asked said faults day = record {
-  honest = honest;
-  moment = moment;
-  left_since = left_since;
-  fault_count = fault_count;
-  asked = asked;
-  said = said;
-  faults = faults;
-  day = day;
-}
+abbrev pub outside_of : {D G C : Type 0} → DiskTold D → GatewayTold G → (C → Option ℕ) → Outside D G C
+outside_of disks gateways day = record { disks = disks; gateways = gateways; day = day }
 
 -- Lanes, by their numbers; the clock; and whether a lane had no room for a command.
 pub record LanesValue (D G C : Type 0) : Type 0 where
@@ -70,8 +53,9 @@ abbrev pub PerformsAt : {D G C : Type 0} → Outside D G C → ℕ → Command �
     → LanesValue D G C
     → LaneReply → Type 0
 PerformsAt outside today command place old new reply =
-    GoesAt (λ lane next. Performs outside.fault_count lane next today command reply
-    × Continues outside.honest outside.moment outside.left_since outside.fault_count lane next)
+    GoesAt (λ lane next. Performs outside.disks.fault_count lane next today command reply
+    × Continues outside.disks.honest outside.disks.moment outside.disks.left_since outside.disks.fault_count
+    lane next)
     place old.lanes new.lanes
     × (new.clock ≡ old.clock) × (new.full ≡ (old.full || is_full_reply reply))
 
@@ -79,9 +63,10 @@ PerformsAt outside today command place old new reply =
 abbrev pub LooksUpAt : {D G C : Type 0} → Outside D G C → ℕ → ℕ → LanesValue D G C → LanesValue D G C → Step
     → Type 0
 LooksUpAt outside today place old new step =
-    GoesAt (λ lane next. LooksAllUp outside.fault_count outside.asked outside.said outside.faults today
+    GoesAt (λ lane next. LooksAllUp outside.disks.fault_count outside.gateways today
     lane next step
-    × Continues outside.honest outside.moment outside.left_since outside.fault_count lane next)
+    × Continues outside.disks.honest outside.disks.moment outside.disks.left_since outside.disks.fault_count
+    lane next)
     place old.lanes new.lanes
     × (new.clock ≡ old.clock) × (new.full ≡ (old.full || is_full_step step))
 
@@ -89,9 +74,10 @@ LooksUpAt outside today place old new step =
 abbrev pub DrainsAt : {D G C : Type 0} → Outside D G C → ℕ → ℕ → LanesValue D G C → LanesValue D G C → Step
     → Type 0
 DrainsAt outside today place old new step =
-    GoesAt (λ lane next. Drains outside.fault_count outside.asked outside.said outside.faults today
+    GoesAt (λ lane next. Drains outside.disks.fault_count outside.gateways today
     lane next step
-    × Continues outside.honest outside.moment outside.left_since outside.fault_count lane next)
+    × Continues outside.disks.honest outside.disks.moment outside.disks.left_since outside.disks.fault_count
+    lane next)
     place old.lanes new.lanes
     × (new.clock ≡ old.clock) × (new.full ≡ (old.full || is_full_step step))
 

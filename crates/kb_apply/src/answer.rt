@@ -23,8 +23,7 @@ use std::alloc::Global;
 impl<D: Disk, G: Gateway + Drop, C: Clock + Drop> LineMachine for Lanes<D, G, C> {
     ghost use Rattle.kb_apply.specs.LaneRuns.{lanes_machine, outside_of};
 
-    ghost machine = { lanes_machine (outside_of D.honest D.moment D.left_since D.fault_count G.asked G.said
-        G.faults C.day) };
+    ghost machine = { lanes_machine (outside_of D.told G.told C.day) };
 
     fn answer(&mut self, alloc: Global, line: &[u8], said: &mut Vec<u8>) -> Result<(), NoMemory> {
         match read_request(alloc, line, true) {
@@ -44,10 +43,10 @@ impl<D: Disk, G: Gateway + Drop, C: Clock + Drop> Lanes<D, G, C> {
     ) -> Result<(), NoMemory>
         requires callers { IsCallers request.now.what }
         ensures ok { OnOk result ((text : List ℕ) × (said.new.items ≡ said.old.items ++ text)
-            × Answers (outside_of D.honest D.moment D.left_since D.fault_count G.asked G.said G.faults C.day)
+            × Answers (outside_of D.told G.told C.day)
             self.old (Ok request.now) text self.new) }
         ensures err { OnErr result ((part : List ℕ) × (said.new.items ≡ said.old.items ++ part)
-            × AnswersPart (outside_of D.honest D.moment D.left_since D.fault_count G.asked G.said G.faults
+            × AnswersPart (outside_of D.told G.told
             C.day) self.old (Ok request.now) part self.new) }
     {
         let today = day_or_today(&self.clock, request.today);
@@ -63,8 +62,7 @@ impl<D: Disk, G: Gateway + Drop, C: Clock + Drop> Lanes<D, G, C> {
     /// Does what is asked for, and gives what is to be said.
     fn reply_to(&mut self, alloc: Global, today: Day, what: &What) -> Said
         requires callers { IsCallers what.now }
-        ensures served { Serves (outside_of D.honest D.moment D.left_since D.fault_count G.asked G.said
-            G.faults C.day) today what.now self.old
+        ensures served { Serves (outside_of D.told G.told C.day) today what.now self.old
             self.new result }
         ensures count { length self.new.lanes ≡ length self.old.lanes }
     {
@@ -78,8 +76,7 @@ impl<D: Disk, G: Gateway + Drop, C: Clock + Drop> Lanes<D, G, C> {
     /// Performs a command: on the lane of its account, or, if it is a text, on all lanes.
     fn perform(&mut self, alloc: Global, today: Day, command: &Command) -> LaneReply
         requires callers { is_callers command.now ≡ true }
-        ensures served { ServesCommand (outside_of D.honest D.moment D.left_since D.fault_count G.asked G.said
-            G.faults C.day) today
+        ensures served { ServesCommand (outside_of D.told G.told C.day) today
             command.now (is_text command.now) self.old self.new result }
         ensures count { length self.new.lanes ≡ length self.old.lanes }
     {

@@ -15,7 +15,8 @@ use kb_runs::{Stop, run_lines};
 use std::alloc::Global;
 
 /// Answers the lines of a source by the lanes, one after another, until the input ends. A lane whose append
-/// failed, or that is full, doesn't end the run: what it can't do is answered so, and told at the end (`Disk`,
+/// failed, or that is full, doesn't end the run: what it can't do is answered so, and told at the end
+/// (`Disk`,
 /// or else `Full`). What stops the run before its input is read to the end is a `Run`.
 pub fn apply_lanes<D: Disk, G: Gateway + Drop, C: Clock + Drop, I: Source, O: Sink>(
     alloc: Global,
@@ -23,9 +24,8 @@ pub fn apply_lanes<D: Disk, G: Gateway + Drop, C: Clock + Drop, I: Source, O: Si
     input: &mut I,
     output: &mut O,
 ) -> Result<(), Stop>
-    ensures applied { Applies (lanes_machine (outside_of D.honest D.moment D.left_since D.fault_count
-        G.asked G.said
-        G.faults C.day)) lanes.old (I.left input.old) (I.left input.new) (O.written output.old)
+    ensures applied { Applies (lanes_machine (outside_of D.told
+        G.told C.day)) lanes.old (I.left input.old) (I.left input.new) (O.written output.old)
         (O.written output.new) lanes.new result }
     ensures input_fault { result ≡ Err (Run Input) → Rose (I.faults input.old) (I.faults input.new) }
     ensures output_fault { result ≡ Err (Run Output) → Rose (O.faults output.old) (O.faults output.new) }

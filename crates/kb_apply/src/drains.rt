@@ -22,11 +22,9 @@ impl<D: Disk, G: Gateway + Drop, C: Clock + Drop> Lanes<D, G, C> {
         count: usize,
     ) -> Result<(), NoMemory>
         requires within { first + count ≤ length self.old.lanes }
-        ensures ok { OnOk result (DrainFrom (outside_of D.honest D.moment D.left_since D.fault_count G.asked
-            G.said G.faults C.day) today first
+        ensures ok { OnOk result (DrainFrom (outside_of D.told G.told C.day) today first
             count self.old self.new) }
-        ensures err { OnErr result (DrainPart (outside_of D.honest D.moment D.left_since D.fault_count G.asked
-            G.said G.faults C.day) today first
+        ensures err { OnErr result (DrainPart (outside_of D.told G.told C.day) today first
             count self.old self.new) }
     {
         let _ = self.count();
@@ -42,8 +40,7 @@ impl<D: Disk, G: Gateway + Drop, C: Clock + Drop> Lanes<D, G, C> {
     /// Drains the lane at a place.
     fn drain_at(&mut self, alloc: Global, today: Day, place: usize) -> Step
         requires within { place < length self.old.lanes }
-        ensures drained { DrainsAt (outside_of D.honest D.moment D.left_since D.fault_count G.asked G.said
-            G.faults C.day) today place
+        ensures drained { DrainsAt (outside_of D.told G.told C.day) today place
             self.old self.new result }
         ensures count { length self.new.lanes ≡ length self.old.lanes }
     {

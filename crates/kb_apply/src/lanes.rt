@@ -81,8 +81,8 @@ impl<D: Disk, G: Gateway + Drop, C: Clock + Drop> Lanes<D, G, C> {
     ) -> LaneReply
         requires callers { is_callers command.now ≡ true }
         requires within { place < length self.old.lanes }
-        ensures performed { PerformsAt (outside_of D.honest D.moment D.left_since D.fault_count G.asked G.said
-            G.faults C.day) today command.now place self.old self.new result }
+        ensures performed { PerformsAt (outside_of D.told G.told C.day) today command.now place self.old
+            self.new result }
         ensures count { length self.new.lanes ≡ length self.old.lanes }
     {
         let reply = perform_in(&mut self.lanes, alloc, today, command, place);

@@ -15,8 +15,7 @@ impl<D: Disk, G: Gateway + Drop, C: Clock + Drop> Lanes<D, G, C> {
     /// Has the lanes look their open payments up, in order, up to the first that isn't done with it, and
     /// gives the last step.
     pub(crate) fn look_up_all(&mut self, alloc: Global, today: Day) -> Step
-        ensures looked { LookUpFrom (outside_of D.honest D.moment D.left_since D.fault_count G.asked G.said
-            G.faults C.day) today 0
+        ensures looked { LookUpFrom (outside_of D.told G.told C.day) today 0
             (length self.old.lanes) self.old self.new result }
         ensures count { length self.new.lanes ≡ length self.old.lanes }
     {
@@ -33,8 +32,7 @@ impl<D: Disk, G: Gateway + Drop, C: Clock + Drop> Lanes<D, G, C> {
     /// Has the lane at a place look its open payments up.
     fn look_up_at(&mut self, alloc: Global, today: Day, place: usize) -> Step
         requires within { place < length self.old.lanes }
-        ensures looked { LooksUpAt (outside_of D.honest D.moment D.left_since D.fault_count G.asked G.said
-            G.faults C.day) today place
+        ensures looked { LooksUpAt (outside_of D.told G.told C.day) today place
             self.old self.new result }
         ensures count { length self.new.lanes ≡ length self.old.lanes }
     {

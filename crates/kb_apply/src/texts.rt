@@ -23,8 +23,7 @@ impl<D: Disk, G: Gateway + Drop, C: Clock + Drop> Lanes<D, G, C> {
         command: &Command,
     ) -> LaneReply
         requires callers { is_callers command.now ≡ true }
-        ensures performed { TextFrom (outside_of D.honest D.moment D.left_since D.fault_count G.asked G.said
-            G.faults C.day) today
+        ensures performed { TextFrom (outside_of D.told G.told C.day) today
             command.now 0 (length self.old.lanes - 1) self.old self.new result }
         ensures count { length self.new.lanes ≡ length self.old.lanes }
     {

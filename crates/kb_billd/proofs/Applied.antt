@@ -4,24 +4,32 @@ use Rattle.std.proofs.Common.{Option, None, Some, IfSome, Result, Ok, Err, arith
 use Rattle.std.specs.List.{slice_get}
 use Rattle.kb_base.specs.Faults.{Rose}
 use Rattle.kb_disk.specs.Vaults.{Opens}
-use Rattle.kb_gateway.specs.declared.order.Asked.{Asked}
-use Rattle.kb_gateway.specs.declared.told.Saying.{Saying}
+use Rattle.kb_disk.specs.Told.{VaultTold}
+use Rattle.kb_gateway.specs.Told.{MarketTold}
 use Rattle.kb_lane.specs.Logs.{StandsForLog}
 use Rattle.kb_histories.proofs.BilledNow.{replays_are_billed_now}
 use Rattle.kb_histories.proofs.EvenNow.{replays_are_even_now}
-use Rattle.kb_lane.specs.Lanes.{LaneValue}
+use Rattle.kb_histories.specs.OnlyAdded.{BooksGoOn}
+use Rattle.kb_histories.proofs.AddUp.{replays_add_up}
+use Rattle.kb_histories.proofs.OnlyAdded.{histories_only_add}
+use Rattle.kb_histories.proofs.Shown.{replays_are_shown}
+use Rattle.kb_codec.specs.Entries.{History}
+use Rattle.kb_machine.specs.Histories.{replay}
+use Rattle.kb_lane.specs.Lanes.{LaneValue, machine_of}
 use Rattle.kb_runs.specs.Reading.{Known}
 use Rattle.kb_runs.specs.declared.stop.Stop.{Stop}
 use Rattle.kb_runs.specs.declared.stop.Stop.TheVariants as stops
 use Rattle.kb_apply.specs.Applying.{Applies}
 use Rattle.kb_desk.specs.Stops.{any_stopped}
 use Rattle.kb_desk.specs.Continuing.{Continues, ContinueAll}
-use Rattle.kb_apply.specs.LaneRuns.{LanesValue, Outside, outside_of, lanes_machine}
+use Rattle.kb_apply.specs.LaneRuns.{LanesValue, Outside, lanes_machine}
 use Rattle.kb_apply.proofs.Continuing.{done_continues, stopped_continues}
-use Rattle.kb_folder.specs.Folders.{VaultTold, DiskWords, words_of}
-use Rattle.kb_folder.specs.Openings.{AreOpened, AreServed}
+use Rattle.kb_ports.specs.Notes.{Notes}
+use Rattle.kb_folder.specs.OneLane.{IsOpened}
+use Rattle.kb_folder.specs.Openings.{AreOpened, AreServed, AreUnasked}
 use Rattle.kb_folder.proofs.Closing.{as_out_as_before, others_as_before}
-use Rattle.kb_billd.specs.Runs.{RunsLanes}
+use Rattle.kb_billd.specs.Runs.{LeavesPrefix, RunsLanes}
+use Rattle.kb_billd.proofs.Prefixes.{prefix_left}
 use Rattle.kb_billd.specs.Private.OpenRuns.{RunsOpen}
 
 -- an item at a place has one at the same place of a list as long
@@ -67,7 +75,8 @@ module _ {D G C : Type 0} (outside : Outside D G C) (begun : LanesValue D G C)
   -- however a run ended, the lanes go on
   further : (last : LanesValue D G C) (outcome : Result (Unit {0}) Stop)
       → Applies (lanes_machine outside) begun left left_after written written_after last outcome
-      → ContinueAll (Continues outside.honest outside.moment outside.left_since outside.fault_count)
+      → ContinueAll (Continues outside.disks.honest outside.disks.moment outside.disks.left_since
+      outside.disks.fault_count)
       begun.lanes last.lanes
   further last (Ok done) ran =
       let told = ran.0.1 in done_continues outside told.0 told.2.0 begun last told.2.2.1
@@ -89,50 +98,68 @@ module _ {D G C : Type 0} (outside : Outside D G C) (begun : LanesValue D G C)
       → length last.lanes ≡ length begun.lanes
   as_many last outcome ran = (further last outcome ran).count
 
-module _ {D G C : Type 0} (honest : D → Bool) (seen : D → List ℕ) (images : D → List ℕ → Type 0)
-    (moment : D → ℕ)
-    (left_since : D → ℕ → List ℕ → Type 0) (fault_count : D → ℕ) (asked : G → Option (List Asked))
-    (said : G → Option (List Saying)) (faults : G → ℕ) (day : C → Option ℕ) (folder : List ℕ) (clock : C)
-    (old mid new : VaultTold) (left left_after written written_after : Known)
-    (first : List (LaneValue D G)) where
-  abbrev words : DiskWords D
-  words = words_of honest seen images fault_count
-
-  abbrev outside : Outside D G C
-  outside = outside_of honest moment left_since fault_count asked said faults day
-
+module _ {D G C : Type 0} (outside : Outside D G C) (folder : List ℕ) (clock : C)
+    (old mid new : VaultTold D) (market market_mid market_after : MarketTold G)
+    (left left_after written written_after : Known) (first : List (LaneValue D G)) where
   abbrev begun : LanesValue D G C
   begun = record { lanes = first; clock = clock; full = false }
 
-  module _ (opened : AreOpened words folder (length first) old mid first)
+  module _ (opened : AreOpened outside.disks folder (length first) old mid first)
       (outcome : Result (Unit {0}) Stop)
-      (run : RunsOpen words outside folder first clock mid new left left_after written written_after outcome)
+      (run : RunsOpen outside folder first clock mid new market_mid market_after left left_after written
+      written_after outcome)
     where
-      on : ContinueAll (Continues honest moment left_since fault_count) first run.last.lanes
+      abbrev Goes : LaneValue D G → LaneValue D G → Type 0
+      Goes = Continues outside.disks.honest outside.disks.moment outside.disks.left_since
+          outside.disks.fault_count
+
+      on : ContinueAll Goes first run.last.lanes
       on = further outside begun left left_after written written_after run.last outcome run.ran
 
-      -- a lane's disk is honest if it was when it was opened
-      stays_honest : (place : ℕ) (lane : LaneValue D G) → slice_get run.last.lanes place ≡ Some lane
-          → ((one : LaneValue D G) → slice_get first place ≡ Some one → IsTrue (honest one.log.journal.disk))
-          → IsTrue (honest lane.log.journal.disk)
-      stays_honest place lane is was =
+      -- the lane from which one went on
+      was : (place : ℕ) (lane : LaneValue D G) → slice_get run.last.lanes place ≡ Some lane
+          → (one : LaneValue D G) × (slice_get first place ≡ Some one) × Goes one lane
+      was place lane is =
           let one = found_beside run.last.lanes first place lane is on.count in
           let next = on.each place one.0 one.1 in
-          let same : next.0 ≡ lane = by_some next.0 (sym next.1 ∙ is) in
-          subst (λ lane. IsTrue (honest lane.log.journal.disk)) same
-          (subst IsTrue (sym next.2.itself.as_honest) (was one.0 one.1))
+          (one.0, one.1, subst (Goes one.0) (by_some next.0 (sym next.1 ∙ is)) next.2)
         where
           by_some : (next : LaneValue D G) → Some next ≡ Some lane → next ≡ lane
           by_some next same = cc
+
+      -- a lane's disk is honest if it was when it was opened, as where its bytes were told
+      stays_honest : (place : ℕ) (lane : LaneValue D G) → slice_get run.last.lanes place ≡ Some lane
+          → (before : List ℕ) → old.lane_bytes folder place ≡ Some before
+          → IsTrue (outside.disks.honest lane.log.journal.disk)
+      stays_honest place lane is before told =
+          let one = was place lane is in
+          subst IsTrue (sym one.2.itself.as_honest)
+          (subst (λ bytes. IfSome bytes (Opens outside.disks.honest outside.disks.seen outside.disks.images
+          one.0.log.journal.disk)) told (opened.each place one.0 one.1).bytes).true_to_them
 
       stands : (place : ℕ) (lane : LaneValue D G) → slice_get run.last.lanes place ≡ Some lane
           → (told : Option (List ℕ))
           → old.lane_bytes folder place ≡ told
           → IfSome told (λ before. IfSome (new.lane_bytes folder place) (StandsForLog lane.log))
       stands place lane is None told = tt
-      stands place lane is (Some before) told = run.back.stand place lane is (stays_honest place lane is
-          (λ one there. (subst (λ bytes. IfSome bytes (Opens honest seen images one.log.journal.disk)) told
-          (opened.each place one there).bytes).true_to_them))
+      stands place lane is (Some before) told = run.back.stand place lane is
+          (stays_honest place lane is before told)
+
+      -- a crash leaves a prefix
+      crash : (place : ℕ) (lane : LaneValue D G) → slice_get run.last.lanes place ≡ Some lane
+          → (told : Option (List ℕ)) → old.lane_bytes folder place ≡ told
+          → IfSome told (λ before. LeavesPrefix outside.disks lane)
+      crash place lane is None told = tt
+      crash place lane is (Some before) told =
+          let one = was place lane is in
+          let first_opened = opened.each place one.0 one.1 in
+          let honest = stays_honest place lane is before told in
+          record {
+            always = prefix_left outside.disks (length first) place before one.0 lane
+                (subst (λ bytes. IsOpened outside.disks (length first) place bytes one.0) told first_opened)
+                one.2;
+            at_end = run.back.durable place lane is honest;
+          }
 
       -- the disk failed: the vault's count rose
       disk_rose : outcome ≡ Err stops.Disk → Rose old.faults new.faults
@@ -144,31 +171,66 @@ module _ {D G C : Type 0} (honest : D → Bool) (seen : D → List ℕ) (images 
           rose any = let found = stopped_at run.last.lanes any in
               run.back.stopped found.0 found.1 found.2 found.3
 
-      pub runs_lanes : (serves : G → ℕ → Type 0) → AreServed serves first → 1 ≤ length first
+      -- items are only added to invoices
+      invoices : ContinueAll (λ lane next. BooksGoOn (machine_of lane) (machine_of next)) first run.last.lanes
+      invoices = record {
+        count = on.count;
+        each = λ place lane is.
+            let next = on.each place lane is in
+            let more = next.2.well.further in (
+              next.0,
+              next.1,
+              subst (λ (history : History). BooksGoOn (replay lane.log.history) (replay history)) (sym more.1)
+                  (histories_only_add lane.log.history more.0),
+            );
+      }
+
+      pub runs_lanes : (serves : G → ℕ → Type 0) → AreServed serves first
+          → AreUnasked outside.gateways first
+          → ((number : ℕ) → market_mid.came_back number ≡ market.came_back number)
+          → market_mid.faults ≡ market.faults → 1 ≤ length first
           → length first ≤ 64
           → ((lane : ℕ) → old.is_out folder lane ≡ false)
-          → RunsLanes words outside serves folder clock old new left left_after written written_after outcome
-      runs_lanes serves served some few inside = record {
+          → RunsLanes outside serves folder clock old new market market_after left left_after written
+          written_after outcome
+      runs_lanes serves served unasked same calm some few inside = record {
         first = first;
         last = run.last;
         some = some;
         few = few;
         opened = opened.each;
         served = served;
+        unasked = unasked;
         ran = run.ran;
         further = on;
+        invoices = invoices;
         sound = λ place lane is. record {
           billed = replays_are_billed_now lane.log.history;
+          shown = replays_are_shown lane.log.history;
+          added = replays_add_up lane.log.history;
           even = replays_are_even_now lane.log.history;
           once = run.once place lane is;
         };
+        disks_back = λ place lane is. subst (λ (before : Option (List D)).
+            Notes before lane.log.journal.disk (new.came_back folder place)) (opened.came_back folder place)
+            (run.back.noted place lane is);
+        gateways_back = record {
+          noted = λ place lane is. subst (λ (before : Option (List G)).
+              Notes before lane.gateway (market_after.came_back place)) (same place)
+              (run.gateways_back.noted place lane is);
+          others = λ place past. run.gateways_back.others place past ∙ same place;
+          calm = run.gateways_back.calm ∙ calm;
+        };
+        crash = λ place lane is. crash place lane is (old.lane_bytes folder place) refl;
         stands = λ place lane is. stands place lane is (old.lane_bytes folder place) refl;
         counted = disk_rose;
-        inside = as_out_as_before words folder (length first) old mid new first run.last.lanes opened
+        inside = as_out_as_before outside.disks folder (length first) old mid new first run.last.lanes opened
             run.back on.count
             inside;
-        others = λ this_folder this there. others_as_before words folder (length first) old mid new first
-            run.last.lanes
+        others = λ this_folder this there. others_as_before outside.disks folder (length first) old mid new
+            first run.last.lanes
             opened run.back on.count this_folder this (rw on.count there);
+        others_back = λ this_folder this there.
+            run.back.others_back this_folder this (rw on.count there) ∙ opened.came_back this_folder this;
         files = λ name. run.back.files name ∙ opened.files name;
       }

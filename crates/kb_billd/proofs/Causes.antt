@@ -4,6 +4,8 @@ use Rattle.std.proofs.Common.{◌≡◌, ℕ, inl, inr, arith, List, Option, Non
 use Rattle.std.proofs.Common.{false, sym, subst, ◌∙◌}
 use Rattle.kb_base.specs.Faults.{Rose}
 use Rattle.kb_disk.specs.Places.{SameLanes}
+use Rattle.kb_disk.specs.Told.{DiskTold, VaultTold}
+use Rattle.kb_gateway.specs.Told.{MarketTold, no_market_told}
 use Rattle.kb_runs.specs.Reading.{Known}
 use Rattle.kb_words.specs.declared.words.Words.{Words}
 use Rattle.kb_words.specs.declared.words.Words.TheVariants as words
@@ -11,7 +13,6 @@ use Rattle.kb_apply.specs.Applying.{Applies}
 use Rattle.kb_apply.specs.LaneRuns.{Outside, lanes_machine}
 use Rattle.kb_folder.specs.declared.unopened.Unopened.{Unopened}
 use Rattle.kb_folder.specs.declared.unopened.Unopened.TheVariants as unopened
-use Rattle.kb_folder.specs.Folders.{VaultTold, DiskWords}
 use Rattle.kb_folder.specs.Openings.{IsCause}
 use Rattle.kb_runs.specs.declared.stop.Stop.{Stop}
 use Rattle.kb_runs.specs.declared.stop.Stop.TheVariants as stops
@@ -21,7 +22,7 @@ use Rattle.kb_reports.specs.Listings.{Said}
 use Rattle.kb_billd.specs.Reports.{ReportsFolder, outcome_of_printing, said_by}
 use Rattle.kb_billd.specs.Runs.{AppliesFolder, stop_of_unopened}
 use Rattle.kb_billd.specs.Summaries.{MakesBy}
-use Rattle.kb_billd.specs.TopCall.{AppliesBy, Around, Begins, Does, gateway_of}
+use Rattle.kb_billd.specs.TopCall.{AppliesBy, Around, Begins, Does, alone, gateway_of}
 use Rattle.kb_billd.proofs.Founded.{founding_disk, founding_no_market}
 
 -- the program is stopped so
@@ -29,7 +30,8 @@ abbrev stopped : Stop → Result (Unit {0}) Stop
 stopped stop = Err stop
 
 -- lanes that aren't opened since a disk failed, or since the market did
-unopened_disk : (folder : List ℕ) (old new : VaultTold) (market market_after : ℕ) (fault : Unopened)
+unopened_disk : {D : Type 0} (folder : List ℕ) (old new : VaultTold D) (market market_after : ℕ)
+    (fault : Unopened)
     → stopped (stop_of_unopened fault) ≡ stopped stops.Disk → IsCause folder old new market market_after fault
     → Rose old.faults new.faults
 unopened_disk folder old new market market_after unopened.Disk same cause = cause.0
@@ -37,7 +39,8 @@ unopened_disk folder old new market market_after unopened.NoMemory same cause = 
 unopened_disk folder old new market market_after (unopened.Journal lane at) same cause = absurd (cc)
 unopened_disk folder old new market market_after unopened.Market same cause = absurd (cc)
 
-unopened_market : (folder : List ℕ) (old new : VaultTold) (market market_after : ℕ) (fault : Unopened)
+unopened_market : {D : Type 0} (folder : List ℕ) (old new : VaultTold D) (market market_after : ℕ)
+    (fault : Unopened)
     → stopped (stop_of_unopened fault) ≡ stopped stops.Market
     → IsCause folder old new market market_after fault
     → Rose market market_after
@@ -50,30 +53,32 @@ unopened_market folder old new market market_after unopened.Market same cause = 
 nobody : Rose 0 0 → ⊥
 nobody rose = absurd (omega (arith, rose (omega arith)))
 
-module _ {D G C : Type 0} (disks : DiskWords D) (outside : Outside D G C) (serves : G → ℕ → Type 0)
-    (folder : List ℕ) (clock : C) (old new : VaultTold) (market market_after : ℕ)
+module _ {D G C : Type 0} (outside : Outside D G C) (serves : G → ℕ → Type 0)
+    (folder : List ℕ) (clock : C) (old new : VaultTold D) (market market_after : MarketTold G)
     (left left_after written written_after : Known)
     (outcome : Result (Unit {0}) Stop) where
-  applied_inside : AppliesFolder disks outside serves folder clock old new market market_after left left_after
+  applied_inside : AppliesFolder outside serves folder clock old new market market_after left left_after
       written written_after outcome → SameLanes new.is_out old.is_out
   applied_inside (inl (fault, told, leaves)) = leaves.same.out
-  applied_inside (inr (same, runs)) = runs.inside
+  applied_inside (inr runs) = runs.inside
 
-  applied_disk : AppliesFolder disks outside serves folder clock old new market market_after left left_after
+  applied_disk : AppliesFolder outside serves folder clock old new market market_after left left_after
       written written_after outcome → outcome ≡ Err stops.Disk → Rose old.faults new.faults
   applied_disk (inl (fault, told, leaves)) is =
-      unopened_disk folder old new market market_after fault (sym told ∙ is) leaves.cause
-  applied_disk (inr (same, runs)) is = runs.counted is
+      unopened_disk folder old new market.faults market_after.faults fault (sym told ∙ is) leaves.cause
+  applied_disk (inr runs) is = runs.counted is
 
-  applied_market : AppliesFolder disks outside serves folder clock old new market market_after left left_after
-      written written_after outcome → outcome ≡ Err stops.Market → Rose market market_after
+  applied_market : AppliesFolder outside serves folder clock old new market market_after left left_after
+      written written_after outcome → outcome ≡ Err stops.Market
+      → Rose market.faults market_after.faults
   applied_market (inl (fault, told, leaves)) is =
-      unopened_market folder old new market market_after fault (sym told ∙ is) leaves.cause
-  applied_market (inr (same, runs)) is =
-      absurd (subst (Applies (lanes_machine outside) (record { lanes = runs.first; clock = clock; full = false })
+      unopened_market folder old new market.faults market_after.faults fault (sym told ∙ is) leaves.cause
+  applied_market (inr runs) is =
+      absurd (subst (Applies (lanes_machine outside)
+      (record { lanes = runs.first; clock = clock; full = false })
       left left_after written written_after runs.last) is runs.ran).1
 
-module _ {D : Type 0} (disks : DiskWords D) (folder : List ℕ) (said : Said) (old new : VaultTold)
+module _ {D : Type 0} (disks : DiskTold D) (folder : List ℕ) (said : Said) (old new : VaultTold D)
     (written written_after : Known) (outcome : Result (Unit {0}) Stop) where
   reported_inside : ReportsFolder disks folder said old new written written_after outcome
       → SameLanes new.is_out old.is_out
@@ -105,20 +110,20 @@ module _ {D : Type 0} (disks : DiskWords D) (folder : List ℕ) (said : Said) (o
       by_print (Err unprinted.Output) same = absurd (cc)
       by_print (Err unprinted.NoMemory) same = absurd (cc)
 
-module _ {D G N C : Type 0} (disks : DiskWords D) (outside : Outside D G C) (alone : Outside D N C)
-    (serves : G → List ℕ → ℕ → Type 0) (clock : C) (old new : Around) (outcome : Result (Unit {0}) Stop) where
+module _ {D G C : Type 0} (outside : Outside D G C) (serves : G → List ℕ → ℕ → Type 0) (clock : C)
+    (old new : Around D G) (outcome : Result (Unit {0}) Stop) where
   by-inside : (folder : List ℕ) (gateway : Option (List ℕ))
-      → AppliesBy disks outside alone serves folder clock old new outcome gateway
+      → AppliesBy outside serves folder clock old new outcome gateway
       → SameLanes new.vault.is_out old.vault.is_out
-  by-inside folder (Some name) applies = applied_inside disks outside
+  by-inside folder (Some name) applies = applied_inside outside
       (λ gateway place. serves gateway name place) folder clock old.vault new.vault old.market
       new.market old.left new.left old.written new.written outcome applies
-  by-inside folder None applies = applied_inside disks alone
-      (λ gateway place. ⊤) folder clock old.vault new.vault 0 0 old.left new.left
+  by-inside folder None applies = applied_inside (alone outside)
+      (λ gateway place. ⊤) folder clock old.vault new.vault no_market_told no_market_told old.left new.left
       old.written new.written outcome applies.1
 
   -- the lanes that were out are out
-  does-inside : (given : Option Words) → Does disks outside alone serves clock old new outcome given
+  does-inside : (given : Option Words) → Does outside serves clock old new outcome given
       → SameLanes new.vault.is_out old.vault.is_out
   does-inside None does = does.1.inside
   does-inside (Some (words.Init init)) does = does.founded.inside
@@ -126,23 +131,24 @@ module _ {D G N C : Type 0} (disks : DiskWords D) (outside : Outside D G C) (alo
   does-inside (Some (words.Bill bill)) does = does.1.inside
   does-inside (Some (words.Serve serve)) does = does.1.inside
   does-inside (Some (words.Report report)) does =
-      reported_inside disks report.dir (said_by report.kind report.day) old.vault new.vault old.written
+      reported_inside outside.disks report.dir (said_by report.kind report.day) old.vault new.vault
+      old.written
       new.written outcome does.reported
   does-inside (Some (words.Make make)) does = does.untouched.inside
 
-  pub begins_inside : (given : Option Words) → Begins disks outside alone serves clock old new outcome given
+  pub begins_inside : (given : Option Words) → Begins outside serves clock old new outcome given
       → SameLanes new.vault.is_out old.vault.is_out
   begins_inside given (inl does) = does-inside given does
   begins_inside given (inr memory) = memory.1.inside
 
   by-disk : (folder : List ℕ) (gateway : Option (List ℕ))
-      → AppliesBy disks outside alone serves folder clock old new outcome gateway → outcome ≡ Err stops.Disk
+      → AppliesBy outside serves folder clock old new outcome gateway → outcome ≡ Err stops.Disk
       → Rose old.vault.faults new.vault.faults
-  by-disk folder (Some name) applies = applied_disk disks outside
+  by-disk folder (Some name) applies = applied_disk outside
       (λ gateway place. serves gateway name place) folder clock old.vault new.vault old.market
       new.market old.left new.left old.written new.written outcome applies
-  by-disk folder None applies = applied_disk disks alone
-      (λ gateway place. ⊤) folder clock old.vault new.vault 0 0 old.left new.left
+  by-disk folder None applies = applied_disk (alone outside)
+      (λ gateway place. ⊤) folder clock old.vault new.vault no_market_told no_market_told old.left new.left
       old.written new.written outcome applies.1
 
   other : (stop : Stop) → outcome ≡ stopped stops.Words → outcome ≡ stopped stop
@@ -150,7 +156,7 @@ module _ {D G N C : Type 0} (disks : DiskWords D) (outside : Outside D G C) (alo
   other stop words is = sym words ∙ is
 
   -- a disk that failed is counted
-  does-disk : (given : Option Words) → Does disks outside alone serves clock old new outcome given
+  does-disk : (given : Option Words) → Does outside serves clock old new outcome given
       → outcome ≡ Err stops.Disk
       → Rose old.vault.faults new.vault.faults
   does-disk None does is = let same = other stops.Disk does.0 is in absurd (cc)
@@ -160,29 +166,29 @@ module _ {D G N C : Type 0} (disks : DiskWords D) (outside : Outside D G C) (alo
   does-disk (Some (words.Bill bill)) does is = let same = other stops.Disk does.0 is in absurd (cc)
   does-disk (Some (words.Serve serve)) does is = let same = other stops.Disk does.0 is in absurd (cc)
   does-disk (Some (words.Report report)) does is =
-      reported_disk disks report.dir (said_by report.kind report.day) old.vault new.vault old.written
+      reported_disk outside.disks report.dir (said_by report.kind report.day) old.vault new.vault old.written
       new.written outcome does.reported is
   does-disk (Some (words.Make make)) does is = absurd (subst
       (MakesBy make old.written new.written) is does.made)
 
-  pub begins_disk : (given : Option Words) → Begins disks outside alone serves clock old new outcome given
+  pub begins_disk : (given : Option Words) → Begins outside serves clock old new outcome given
       → outcome ≡ Err stops.Disk → Rose old.vault.faults new.vault.faults
   begins_disk given (inl does) is = does-disk given does is
   begins_disk given (inr memory) is = let same = sym memory.0 ∙ is in absurd (cc)
 
   by-market : (folder : List ℕ) (gateway : Option (List ℕ))
-      → AppliesBy disks outside alone serves folder clock old new outcome gateway → outcome ≡ Err stops.Market
-      → Rose old.market new.market
-  by-market folder (Some name) applies is = applied_market disks outside
+      → AppliesBy outside serves folder clock old new outcome gateway → outcome ≡ Err stops.Market
+      → Rose old.market.faults new.market.faults
+  by-market folder (Some name) applies is = applied_market outside
       (λ gateway place. serves gateway name place) folder clock old.vault new.vault old.market
       new.market old.left new.left old.written new.written outcome applies is
-  by-market folder None applies is = absurd (nobody (applied_market disks alone
-      (λ gateway place. ⊤) folder clock old.vault new.vault 0 0
+  by-market folder None applies is = absurd (nobody (applied_market (alone outside)
+      (λ gateway place. ⊤) folder clock old.vault new.vault no_market_told no_market_told
       old.left new.left old.written new.written outcome applies.1 is))
 
   -- a market that failed is counted
-  does-market : (given : Option Words) → Does disks outside alone serves clock old new outcome given
-      → outcome ≡ Err stops.Market → Rose old.market new.market
+  does-market : (given : Option Words) → Does outside serves clock old new outcome given
+      → outcome ≡ Err stops.Market → Rose old.market.faults new.market.faults
   does-market None does is = let same = other stops.Market does.0 is in absurd (cc)
   does-market (Some (words.Init init)) does is =
       absurd (founding_no_market does.today init old.vault new.vault outcome does.founded is)
@@ -190,13 +196,13 @@ module _ {D G N C : Type 0} (disks : DiskWords D) (outside : Outside D G C) (alo
   does-market (Some (words.Bill bill)) does is = let same = other stops.Market does.0 is in absurd (cc)
   does-market (Some (words.Serve serve)) does is = let same = other stops.Market does.0 is in absurd (cc)
   does-market (Some (words.Report report)) does is =
-      absurd (reported_no_market disks report.dir (said_by report.kind report.day) old.vault
+      absurd (reported_no_market outside.disks report.dir (said_by report.kind report.day) old.vault
       new.vault old.written
       new.written outcome does.reported is)
   does-market (Some (words.Make make)) does is = absurd
       (subst (MakesBy make old.written new.written) is does.made)
 
-  pub begins_market : (given : Option Words) → Begins disks outside alone serves clock old new outcome given
-      → outcome ≡ Err stops.Market → Rose old.market new.market
+  pub begins_market : (given : Option Words) → Begins outside serves clock old new outcome given
+      → outcome ≡ Err stops.Market → Rose old.market.faults new.market.faults
   begins_market given (inl does) is = does-market given does is
   begins_market given (inr memory) is = let same = sym memory.0 ∙ is in absurd (cc)

@@ -5,15 +5,15 @@ use Rattle.kb_catalog_text.specs.declared.fault.TextFault.{TextFault}
 use Rattle.kb_runs.specs.declared.run_stop.RunStop.TheVariants as runs
 use Rattle.kb_words.specs.declared.words.Init.{Init}
 use Rattle.kb_disk.specs.Places.{SameLanes}
-use Rattle.kb_folder.specs.Folders.{VaultTold}
+use Rattle.kb_disk.specs.Told.{VaultTold}
 use Rattle.kb_folder.specs.declared.unfounded.Unfounded.{Unfounded}
 use Rattle.kb_folder.specs.declared.unfounded.Unfounded.TheVariants as unfounded
-use Rattle.kb_folder.specs.Foundings.{FoundsWith, IsLeft, CountsFaults}
+use Rattle.kb_folder.specs.Foundings.{FailsAtOne, FoundsWith, IsLeft, CountsFaults, SameOrWith, StopsBeforeOne}
 use Rattle.kb_runs.specs.declared.stop.Stop.{Stop}
 use Rattle.kb_runs.specs.declared.stop.Stop.TheVariants as stops
 use Rattle.kb_billd.specs.Foundings.{FoundsFolder, Made, outcome_of_founding}
 
-module _ (today : ℕ) (init : Init) (old new : VaultTold) where
+module _ {D : Type 0} (today : ℕ) (init : Init) (old new : VaultTold D) where
   -- what is made, by how it ended
   pub made_by : (ended : Result (Unit {0}) Unfounded)
       → OnOk ended (FoundsWith today init.dir init.lanes init.lanes init.lanes (old.file_bytes init.catalog)
@@ -24,13 +24,18 @@ module _ (today : ℕ) (init : Init) (old new : VaultTold) where
       → ((lane : ℕ) → ended ≡ Err (unfounded.NotEmpty lane)
       → FoundsWith today init.dir init.lanes lane (lane + 1)
       (old.file_bytes init.catalog) (old.file_bytes init.overdue) old.lane_bytes new.lane_bytes)
+      → (ended ≡ Err unfounded.Disk → SameOrWith today (old.file_bytes init.catalog)
+      (old.file_bytes init.overdue) (FailsAtOne init.dir init.lanes) old.lane_bytes new.lane_bytes)
+      → (ended ≡ Err unfounded.NoMemory → SameOrWith today (old.file_bytes init.catalog)
+      (old.file_bytes init.overdue) (StopsBeforeOne init.dir init.lanes) old.lane_bytes new.lane_bytes)
       → Made today init old new ended
-  made_by (Ok done) founded untouched not_empty before = founded
-  made_by (Err (unfounded.NotEmpty lane)) founded untouched not_empty before =
+  made_by (Ok done) founded untouched not_empty before failed no_memory = founded
+  made_by (Err (unfounded.NotEmpty lane)) founded untouched not_empty before failed no_memory =
       let left = not_empty lane refl in (left.0, left.1, before lane refl)
-  made_by (Err (unfounded.Text fault)) founded untouched not_empty before = untouched fault refl
-  made_by (Err unfounded.Disk) founded untouched not_empty before = tt
-  made_by (Err unfounded.NoMemory) founded untouched not_empty before = tt
+  made_by (Err (unfounded.Text fault)) founded untouched not_empty before failed no_memory = untouched fault
+      refl
+  made_by (Err unfounded.Disk) founded untouched not_empty before failed no_memory = failed refl
+  made_by (Err unfounded.NoMemory) founded untouched not_empty before failed no_memory = no_memory refl
 
   -- a disk that failed is counted, and no other end is that of a disk or a market
   pub founding_disk : (outcome : Result (Unit {0}) Stop) → FoundsFolder today init old new outcome

@@ -4,3 +4,4 @@ mod Causes
 mod Founded
 mod Reported
 mod Untouched
+pub mod Prefixes

@@ -5,10 +5,9 @@ ghost use Rattle.kb_base.specs.Faults.{Rose};
 ghost use Rattle.kb_apply.specs.LaneRuns.{outside_of};
 ghost use Rattle.kb_runs.specs.declared.run_stop.RunStop.TheVariants.{Input, Output};
 ghost use Rattle.kb_disk.specs.Places.{SameLanes};
-ghost use Rattle.kb_folder.specs.Folders.{told_of, words_of};
 ghost use Rattle.kb_words.specs.Grammar.{words_of as words_read};
 ghost use Rattle.kb_runs.specs.declared.stop.Stop.TheVariants as stops;
-ghost use Rattle.kb_billd.specs.TopCall.{alone, around_of, gateway_of, AppliesBy, Begins, Does, Ends};
+ghost use Rattle.kb_billd.specs.TopCall.{around_of, gateway_of, AppliesBy, Begins, Does, Ends};
 ghost use Rattle.kb_billd.specs.TopCall.{IsToday};
 ghost use Rattle.kb_billd.specs.Foundings.{FoundsFolder};
 ghost use Rattle.kb_billd.specs.Reports.{ReportsFolder, said_by};
@@ -32,22 +31,18 @@ pub fn billd<I: Source, O: Sink, V: Vault, M: Market, C: Clock + Drop>(
     market: &mut M,
     clock: C,
 ) -> u8
-    requires inside { (folder : List ℕ) (lane : ℕ) → V.is_out vault.old folder lane ≡ false }
-    ensures ends { Ends (words_of V.Disk.honest V.Disk.seen V.Disk.images V.Disk.fault_count)
-        (outside_of V.Disk.honest V.Disk.moment V.Disk.left_since V.Disk.fault_count M.Gateway.asked
-        M.Gateway.said
-        M.Gateway.faults C.day)
-        (alone V.Disk.honest V.Disk.moment V.Disk.left_since V.Disk.fault_count C.day) M.serves clock
+    requires inside { (folder : List ℕ) (lane : ℕ) → (V.told vault.old).is_out folder lane ≡ false }
+    ensures ends { Ends (outside_of V.Disk.told M.Gateway.told C.day) M.serves clock
         (words_read (map string_bytes words.now.items))
         (around_of (I.left input.old) (O.written output.old)
-        (told_of V.is_out V.lane_bytes V.file_bytes V.faults vault.old) (M.faults market.old))
+        (V.told vault.old) (M.told market.old))
         (around_of (I.left input.new) (O.written output.new)
-        (told_of V.is_out V.lane_bytes V.file_bytes V.faults vault.new) (M.faults market.new)) result }
+        (V.told vault.new) (M.told market.new)) result }
     ensures input { result ≡ 3 → Rose (I.faults input.old) (I.faults input.new) }
     ensures output { result ≡ 4 → Rose (O.faults output.old) (O.faults output.new) }
-    ensures inside { SameLanes (V.is_out vault.new) (V.is_out vault.old) }
-    ensures disk { result ≡ 5 → Rose (V.faults vault.old) (V.faults vault.new) }
-    ensures market { result ≡ 10 → Rose (M.faults market.old) (M.faults market.new) }
+    ensures inside { SameLanes (V.told vault.new).is_out (V.told vault.old).is_out }
+    ensures disk { result ≡ 5 → Rose (V.told vault.old).faults (V.told vault.new).faults }
+    ensures market { result ≡ 10 → Rose (M.told market.old).faults (M.told market.new).faults }
 {
     let run = begin(alloc, words, input, output, vault, market, clock);
     close(alloc, output, run)
@@ -64,16 +59,12 @@ fn begin<I: Source, O: Sink, V: Vault, M: Market, C: Clock + Drop>(
     market: &mut M,
     clock: C,
 ) -> Result<(), Stop>
-    requires inside { (folder : List ℕ) (lane : ℕ) → V.is_out vault.old folder lane ≡ false }
-    ensures begins { Begins (words_of V.Disk.honest V.Disk.seen V.Disk.images V.Disk.fault_count)
-        (outside_of V.Disk.honest V.Disk.moment V.Disk.left_since V.Disk.fault_count M.Gateway.asked
-        M.Gateway.said
-        M.Gateway.faults C.day)
-        (alone V.Disk.honest V.Disk.moment V.Disk.left_since V.Disk.fault_count C.day) M.serves clock
+    requires inside { (folder : List ℕ) (lane : ℕ) → (V.told vault.old).is_out folder lane ≡ false }
+    ensures begins { Begins (outside_of V.Disk.told M.Gateway.told C.day) M.serves clock
         (around_of (I.left input.old) (O.written output.old)
-        (told_of V.is_out V.lane_bytes V.file_bytes V.faults vault.old) (M.faults market.old))
+        (V.told vault.old) (M.told market.old))
         (around_of (I.left input.new) (O.written output.new)
-        (told_of V.is_out V.lane_bytes V.file_bytes V.faults vault.new) (M.faults market.new))
+        (V.told vault.new) (M.told market.new))
         result (words_read (map string_bytes words.now.items)) }
     ensures input { result ≡ Err (stops.Run Input) → Rose (I.faults input.old) (I.faults input.new) }
     ensures output { result ≡ Err (stops.Run Output) → Rose (O.faults output.old) (O.faults output.new) }
@@ -97,16 +88,12 @@ fn act<I: Source, O: Sink, V: Vault, M: Market, C: Clock + Drop>(
     market: &mut M,
     clock: C,
 ) -> Result<(), Stop>
-    requires inside { (folder : List ℕ) (lane : ℕ) → V.is_out vault.old folder lane ≡ false }
-    ensures does { Does (words_of V.Disk.honest V.Disk.seen V.Disk.images V.Disk.fault_count)
-        (outside_of V.Disk.honest V.Disk.moment V.Disk.left_since V.Disk.fault_count M.Gateway.asked
-        M.Gateway.said
-        M.Gateway.faults C.day)
-        (alone V.Disk.honest V.Disk.moment V.Disk.left_since V.Disk.fault_count C.day) M.serves clock
+    requires inside { (folder : List ℕ) (lane : ℕ) → (V.told vault.old).is_out folder lane ≡ false }
+    ensures does { Does (outside_of V.Disk.told M.Gateway.told C.day) M.serves clock
         (around_of (I.left input.old) (O.written output.old)
-        (told_of V.is_out V.lane_bytes V.file_bytes V.faults vault.old) (M.faults market.old))
+        (V.told vault.old) (M.told market.old))
         (around_of (I.left input.new) (O.written output.new)
-        (told_of V.is_out V.lane_bytes V.file_bytes V.faults vault.new) (M.faults market.new))
+        (V.told vault.new) (M.told market.new))
         result (Some words.now) }
     ensures input { result ≡ Err (stops.Run Input) → Rose (I.faults input.old) (I.faults input.new) }
     ensures output { result ≡ Err (stops.Run Output) → Rose (O.faults output.old) (O.faults output.new) }
@@ -128,10 +115,10 @@ fn init_on<V: Vault, C: Clock>(
     init: &Init,
     clock: &C,
 ) -> Result<(), Stop>
-    requires inside { (lane : ℕ) → V.is_out vault.old init.now.dir lane ≡ false }
+    requires inside { (lane : ℕ) → (V.told vault.old).is_out init.now.dir lane ≡ false }
     ensures { (today : ℕ) × IsToday (C.day clock.now) today × FoundsFolder today init.now
-        (told_of V.is_out V.lane_bytes V.file_bytes V.faults vault.old)
-        (told_of V.is_out V.lane_bytes V.file_bytes V.faults vault.new) result }
+        (V.told vault.old)
+        (V.told vault.new) result }
 {
     init_folder(alloc, vault, clock.today(), init)
 }
@@ -146,17 +133,13 @@ fn apply_by<I: Source, O: Sink, V: Vault, M: Market, C: Clock + Drop>(
     market: &mut M,
     clock: C,
 ) -> Result<(), Stop>
-    requires inside { (lane : ℕ) → V.is_out vault.old apply.now.dir lane ≡ false }
-    ensures applied { AppliesBy (words_of V.Disk.honest V.Disk.seen V.Disk.images V.Disk.fault_count)
-        (outside_of V.Disk.honest V.Disk.moment V.Disk.left_since V.Disk.fault_count M.Gateway.asked
-        M.Gateway.said
-        M.Gateway.faults C.day)
-        (alone V.Disk.honest V.Disk.moment V.Disk.left_since V.Disk.fault_count C.day) M.serves
+    requires inside { (lane : ℕ) → (V.told vault.old).is_out apply.now.dir lane ≡ false }
+    ensures applied { AppliesBy (outside_of V.Disk.told M.Gateway.told C.day) M.serves
         apply.now.dir clock
         (around_of (I.left input.old) (O.written output.old)
-        (told_of V.is_out V.lane_bytes V.file_bytes V.faults vault.old) (M.faults market.old))
+        (V.told vault.old) (M.told market.old))
         (around_of (I.left input.new) (O.written output.new)
-        (told_of V.is_out V.lane_bytes V.file_bytes V.faults vault.new) (M.faults market.new))
+        (V.told vault.new) (M.told market.new))
         result (gateway_of apply.now.gateway) }
     ensures input { result ≡ Err (stops.Run Input) → Rose (I.faults input.old) (I.faults input.new) }
     ensures output { result ≡ Err (stops.Run Output) → Rose (O.faults output.old) (O.faults output.new) }
@@ -185,11 +168,11 @@ fn report_by<O: Sink, V: Vault>(
     output: &mut O,
     vault: &mut V,
 ) -> Result<(), Stop>
-    requires inside { (lane : ℕ) → V.is_out vault.old report.now.dir lane ≡ false }
-    ensures reported { ReportsFolder (words_of V.Disk.honest V.Disk.seen V.Disk.images V.Disk.fault_count)
+    requires inside { (lane : ℕ) → (V.told vault.old).is_out report.now.dir lane ≡ false }
+    ensures reported { ReportsFolder V.Disk.told
         report.now.dir (said_by report.now.kind report.now.day)
-        (told_of V.is_out V.lane_bytes V.file_bytes V.faults vault.old)
-        (told_of V.is_out V.lane_bytes V.file_bytes V.faults vault.new)
+        (V.told vault.old)
+        (V.told vault.new)
         (O.written output.old) (O.written output.new) result }
     ensures read_no_input { result ≡ Err (stops.Run Input) → ⊥ }
     ensures output { result ≡ Err (stops.Run Output) → Rose (O.faults output.old) (O.faults output.new) }

@@ -25,8 +25,8 @@ pub fn perform_in<D: Disk, G: Gateway + Drop>(
 ) -> LaneReply
     requires callers { is_callers command.now ≡ true }
     requires within { place < length lanes.old.items }
-    ensures performed { GoesAt (λ lane next. Performs D.fault_count lane next today command.now result
-        × Continues D.honest D.moment D.left_since D.fault_count lane next) place lanes.old.items
+    ensures performed { GoesAt (λ lane next. Performs D.told.fault_count lane next today command.now result
+        × Continues D.told.honest D.told.moment D.told.left_since D.told.fault_count lane next) place lanes.old.items
         lanes.new.items }
     ensures count { length lanes.new.items ≡ length lanes.old.items }
 {
@@ -43,8 +43,8 @@ pub fn look_up_in<D: Disk, G: Gateway + Drop>(
 ) -> Step
     requires within { place < length lanes.old.items }
     ensures looked { GoesAt
-        (λ lane next. LooksAllUp D.fault_count G.asked G.said G.faults today lane next result
-        × Continues D.honest D.moment D.left_since D.fault_count lane next) place lanes.old.items
+        (λ lane next. LooksAllUp D.told.fault_count G.told today lane next result
+        × Continues D.told.honest D.told.moment D.told.left_since D.told.fault_count lane next) place lanes.old.items
         lanes.new.items }
     ensures count { length lanes.new.items ≡ length lanes.old.items }
 {
@@ -60,8 +60,8 @@ pub fn drain_in<D: Disk, G: Gateway + Drop>(
     place: usize,
 ) -> Step
     requires within { place < length lanes.old.items }
-    ensures drained { GoesAt (λ lane next. Drains D.fault_count G.asked G.said G.faults today lane next result
-        × Continues D.honest D.moment D.left_since D.fault_count lane next) place lanes.old.items
+    ensures drained { GoesAt (λ lane next. Drains D.told.fault_count G.told today lane next result
+        × Continues D.told.honest D.told.moment D.told.left_since D.told.fault_count lane next) place lanes.old.items
         lanes.new.items }
     ensures count { length lanes.new.items ≡ length lanes.old.items }
 {

@@ -147,6 +147,14 @@ told_again old mid new this_folder this gone now first last folder lane =
     ∙ ap (λ before. cond (is_place this_folder this folder lane) now before) (first folder lane)
     ∙ again_now (is_place this_folder this folder lane) now gone (old folder lane)
 
+-- nothing, and then one lane
+pub told_over : {A : Type 0} (old mid new : List ℕ → ℕ → A) (this_folder : List ℕ) (this : ℕ) (now : A)
+    → SameLanes mid old → SameLanes new (with_lane mid this_folder this now)
+    → SameLanes new (with_lane old this_folder this now)
+told_over old mid new this_folder this now first last folder lane =
+    last folder lane
+    ∙ ap (λ before. cond (is_place this_folder this folder lane) now before) (first folder lane)
+
 -- of a lane what was told of it before
 pub told_same : {A : Type 0} (old new : List ℕ → ℕ → A) (this_folder : List ℕ) (this : ℕ) (now : A)
     → old this_folder this ≡ now → SameLanes new (with_lane old this_folder this now) → SameLanes new old

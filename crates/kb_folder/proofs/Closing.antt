@@ -1,22 +1,22 @@
 -- Lanes that were opened, and that are given back later: which are out, and what is told of them.
 use Rattle.std.proofs.Common.{◌≡◌, ◌<◌, ℕ, true, false, Bool, List, length, None, refl, sym, subst, ◌∙◌}
 use Rattle.kb_disk.specs.Places.{is_among, SameLanes}
+use Rattle.kb_disk.specs.Told.{DiskTold, VaultTold}
 use Rattle.kb_lane.specs.Lanes.{LaneValue}
-use Rattle.kb_folder.specs.Folders.{VaultTold, DiskWords}
 use Rattle.kb_folder.specs.Openings.{AreOpened, AreBack}
 use Rattle.kb_folder.proofs.Amongs.{among, of_folder, told_before, told_now}
 
 -- lanes that are open are out
-pub are_out : {D G : Type 0} (words : DiskWords D) (folder : List ℕ) (count : ℕ) (old mid : VaultTold)
-    (lanes : List (LaneValue D G)) → AreOpened words folder count old mid lanes
+pub are_out : {D G : Type 0} (disks : DiskTold D) (folder : List ℕ) (count : ℕ) (old mid : VaultTold D)
+    (lanes : List (LaneValue D G)) → AreOpened disks folder count old mid lanes
     → (place : ℕ) → place < length lanes → mid.is_out folder place ≡ true
-are_out words folder count old mid lanes opened place inside =
+are_out disks folder count old mid lanes opened place inside =
     opened.out folder place
     ∙ told_now old.is_out folder (length lanes) true folder place (among folder (length lanes) place inside)
 
-module _ {D G : Type 0} (words : DiskWords D) (folder : List ℕ) (count : ℕ) (old mid new : VaultTold)
-    (first last : List (LaneValue D G)) (opened : AreOpened words folder count old mid first)
-    (back : AreBack words folder mid new last) (all : length last ≡ length first) where
+module _ {D G : Type 0} (disks : DiskTold D) (folder : List ℕ) (count : ℕ) (old mid new : VaultTold D)
+    (first last : List (LaneValue D G)) (opened : AreOpened disks folder count old mid first)
+    (back : AreBack disks folder mid new last) (all : length last ≡ length first) where
   same_test : (this_folder : List ℕ) (this : ℕ) (there : Bool)
       → is_among folder (length last) this_folder this ≡ there
       → is_among folder (length first) this_folder this ≡ there

@@ -1,9 +1,10 @@
 -- A disk that is given back has the bytes that it had.
-use Rattle.std.proofs.Common.{◌≡◌, ℕ, Bool, IsTrue, List, Option, Some, None, IfSome, refl, sym, subst, ◌∙◌}
+use Rattle.std.proofs.Common.{◌≡◌, ℕ, Bool, IsTrue, List, Option, Some, None, IfSome, inr, refl, sym}
+use Rattle.std.proofs.Common.{subst, ◌∙◌}
 use Rattle.kb_disk.specs.Images.{IsAmong}
 use Rattle.kb_disk.specs.Vaults.{Opens}
-use Rattle.kb_folder.specs.Folders.{VaultTold, DiskWords}
-use Rattle.kb_folder.specs.OneLane.{TellsNoOther, TakesBack}
+use Rattle.kb_disk.specs.Told.{DiskTold, VaultTold}
+use Rattle.kb_folder.specs.OneLane.{KeepsBytes, TellsNoOther, TakesBack}
 use Rattle.kb_folder.specs.Private.Unmade.{IsGivenBack}
 
 -- what is read of an honest disk that was only synced and read is what was read of it before
@@ -36,14 +37,17 @@ pub same_tells : (told now : Option (List ℕ)) → now ≡ told → TellsNoOthe
 same_tells None now is = tt
 same_tells (Some before) now is = subst (TellsNoOther (Some before)) (sym is) refl
 
-pub given_back : {D : Type 0} (words : DiskWords D) (folder : List ℕ) (number : ℕ)
-    (old new : VaultTold) (disk : D)
-    (told : Option (List ℕ)) → TakesBack words folder number old new disk
-    → IfSome told (λ bytes. words.seen disk ≡ bytes) → IsGivenBack folder number told old new
-given_back words folder number old new disk told takes was = record {
+pub given_back : {D : Type 0} (disks : DiskTold D) (folder : List ℕ) (number : ℕ)
+    (old new : VaultTold D) (disk : D)
+    (told : Option (List ℕ)) → TakesBack disks folder number old new disk
+    → IfSome told (λ bytes. disks.seen disk ≡ bytes) → KeepsBytes disks told disk
+    → IsGivenBack disks folder number told old new
+given_back disks folder number old new disk told takes was unharmed = record {
   inside = takes.inside;
-  bytes = tells_no_other told (new.lane_bytes folder number) (words.seen disk) was takes.bytes;
+  bytes = tells_no_other told (new.lane_bytes folder number) (disks.seen disk) was takes.bytes;
   others = takes.others;
+  back = inr (disk, takes.noted, unharmed);
+  others_back = takes.others_back;
   files = takes.files;
   rising = takes.rising;
 }

@@ -1,10 +1,6 @@
 mod Accepted
 mod Added
-pub mod Amongs
 mod AsBefore
-pub mod Closing
-pub mod GivenBack
-pub mod LeftIn
 mod Opened
 mod Outcomes
 mod Places
@@ -12,6 +8,11 @@ mod Read
 mod Returned
 mod Rooms
 mod Served
-pub mod Unchanged
 mod Unharmed
 mod Unloaded
+pub mod Amongs
+pub mod Closing
+pub mod Gateways
+pub mod GivenBack
+pub mod LeftIn
+pub mod Unchanged

@@ -4,6 +4,7 @@ use Rattle.std.proofs.Common.{Option, Some, None, IfSome, inl, inr, arith, refl,
 use Rattle.std.specs.List.{slice_get}
 use Rattle.kb_base.specs.Faults.{Rose}
 use Rattle.kb_disk.specs.Places.{is_among, is_place, SameLanes}
+use Rattle.kb_disk.specs.Told.{DiskTold, VaultTold}
 use Rattle.kb_journal.specs.Format.{StandsFor}
 use Rattle.kb_journal.specs.Reading.{number_at}
 use Rattle.kb_codec.specs.Entries.{History, payloads}
@@ -13,40 +14,41 @@ use Rattle.kb_lane.specs.Lanes.{LaneValue}
 use Rattle.kb_lane.specs.Loads.{IsNoLane}
 use Rattle.kb_folder.specs.declared.unopened.Unopened.{Unopened}
 use Rattle.kb_folder.specs.declared.unopened.Unopened.TheVariants as faults
-use Rattle.kb_folder.specs.Folders.{VaultTold, DiskWords, with_lanes}
-use Rattle.kb_folder.specs.OneLane.{IsOpened, TellsNoOther, TakesOut, IsLeftIn, IsLaneCause}
+use Rattle.kb_folder.specs.Folders.{with_lanes}
+use Rattle.kb_folder.specs.OneLane.{ComesBackWhole, IsOpened, TellsNoOther, TakesOut, IsLeftIn, IsLaneCause}
 use Rattle.kb_folder.specs.Openings.{AreOpened, TellsOtherLanes, IsCause, IsLaneBeside, IsFirstOfThem}
 use Rattle.kb_folder.specs.Private.AllLanes.{AddsLane, HasStopped}
-use Rattle.kb_folder.proofs.Amongs.{not_among, not_among_fewer, not_place, told_at, told_before}
+use Rattle.kb_folder.proofs.Amongs.{apart, not_among, not_among_fewer, not_place, one_place, told_at, told_before}
 use Rattle.kb_folder.proofs.Amongs.{told_elsewhere, told_more}
 use Rattle.kb_folder.proofs.GivenBack.{reads_them, same_tells}
 use Rattle.kb_folder.proofs.LeftIn.{tells_lanes}
 use Rattle.kb_folder.proofs.Places.{at_snoc, length_snoc, some_at}
 
 -- no lane is open yet
-pub none_open : {D G : Type 0} (words : DiskWords D) (folder : List ℕ) (count : ℕ) (old : VaultTold)
-    (lanes : List (LaneValue D G)) → lanes ≡ [] → AreOpened words folder count old old lanes
-none_open {D = D} {G = G} words folder count old lanes none =
-    subst (AreOpened words folder count old old) (sym none) (record {
+pub none_open : {D G : Type 0} (disks : DiskTold D) (folder : List ℕ) (count : ℕ) (old : VaultTold D)
+    (lanes : List (LaneValue D G)) → lanes ≡ [] → AreOpened disks folder count old old lanes
+none_open {D = D} {G = G} disks folder count old lanes none =
+    subst (AreOpened disks folder count old old) (sym none) (record {
       each = λ place lane is. absurd (cc);
       out = λ this_folder this. sym (told_before old.is_out folder 0 true this_folder this
           (not_among folder 0 this_folder this (omega arith)));
       bytes = λ this_folder this. sym (told_before old.lane_bytes folder 0 None this_folder this
           (not_among folder 0 this_folder this (omega arith)));
+      came_back = λ this_folder this. refl;
       files = λ name. refl;
       calm = refl;
     })
 
-module _ {D G : Type 0} (words : DiskWords D) (folder : List ℕ) (count : ℕ) (old mid new : VaultTold)
-    (lanes : List (LaneValue D G)) (so_far : AreOpened words folder count old mid lanes) where
+module _ {D G : Type 0} (disks : DiskTold D) (folder : List ℕ) (count : ℕ) (old mid new : VaultTold D)
+    (lanes : List (LaneValue D G)) (so_far : AreOpened disks folder count old mid lanes) where
   -- the next lane is as it was at first
   next_bytes : mid.lane_bytes folder (length lanes) ≡ old.lane_bytes folder (length lanes)
   next_bytes = so_far.bytes folder (length lanes)
       ∙ told_before old.lane_bytes folder (length lanes) None folder (length lanes)
       (not_among folder (length lanes) folder (length lanes) (omega arith))
 
-  snoc : (lane : LaneValue D G) → TakesOut words folder count (length lanes) mid new lane
-      → AreOpened words folder count old new (lanes ++ lane ∷ [])
+  snoc : (lane : LaneValue D G) → TakesOut disks folder count (length lanes) mid new lane
+      → AreOpened disks folder count old new (lanes ++ lane ∷ [])
   snoc lane takes = record {
     each = λ place item is. by_place place item (at_snoc lanes lane place item is);
     out = subst (λ (n : ℕ). SameLanes new.is_out (with_lanes old.is_out folder n true))
@@ -56,31 +58,32 @@ module _ {D G : Type 0} (words : DiskWords D) (folder : List ℕ) (count : ℕ) 
         (sym (length_snoc lanes lane))
         (told_more old.lane_bytes mid.lane_bytes new.lane_bytes folder (length lanes) None
         so_far.bytes takes.bytes);
+    came_back = λ this_folder this. takes.came_back this_folder this ∙ so_far.came_back this_folder this;
     files = λ name. takes.files name ∙ so_far.files name;
     calm = takes.calm ∙ so_far.calm;
   }
     where
       by_place : (place : ℕ) (item : LaneValue D G)
           → (slice_get lanes place ≡ Some item) ⊎ ((place ≡ length lanes) × (lane ≡ item))
-          → IsOpened words count place (old.lane_bytes folder place) item
+          → IsOpened disks count place (old.lane_bytes folder place) item
       by_place place item (inl there) = so_far.each place item there
       by_place place item (inr (end, same)) =
-          subst (λ (l : LaneValue D G). IsOpened words count place (old.lane_bytes folder place) l) same
-          (subst (λ (n : ℕ). IsOpened words count n (old.lane_bytes folder n) lane) (sym end)
-          (subst (λ (b : Option (List ℕ)). IsOpened words count (length lanes) b lane) next_bytes
+          subst (λ (l : LaneValue D G). IsOpened disks count place (old.lane_bytes folder place) l) same
+          (subst (λ (n : ℕ). IsOpened disks count n (old.lane_bytes folder n) lane) (sym end)
+          (subst (λ (b : Option (List ℕ)). IsOpened disks count (length lanes) b lane) next_bytes
           takes.opened))
 
   -- one lane more is open
-  pub one_more_open : (more : List (LaneValue D G)) → AddsLane words folder count mid new lanes more
-      → AreOpened words folder count old new more
-  one_more_open more adds = subst (AreOpened words folder count old new) (sym adds.1) (snoc adds.0 adds.2)
+  pub one_more_open : (more : List (LaneValue D G)) → AddsLane disks folder count mid new lanes more
+      → AreOpened disks folder count old new more
+  one_more_open more adds = subst (AreOpened disks folder count old new) (sym adds.1) (snoc adds.0 adds.2)
 
-  pub one_longer : (more : List (LaneValue D G)) → AddsLane words folder count mid new lanes more
+  pub one_longer : (more : List (LaneValue D G)) → AddsLane disks folder count mid new lanes more
       → length more ≡ length lanes + 1
   one_longer more adds = ap (λ (l : List (LaneValue D G)). length l) adds.1 ∙ length_snoc lanes adds.0
 
   -- what is told of a lane that isn't open is no other than at first
-  tells : IsLeftIn folder (length lanes) mid new → (this_folder : List ℕ) (this : ℕ)
+  tells : IsLeftIn disks folder (length lanes) mid new → (this_folder : List ℕ) (this : ℕ)
       → is_among folder (length lanes) this_folder this ≡ false
       → TellsNoOther (old.lane_bytes this_folder this) (new.lane_bytes this_folder this)
   tells left this_folder this not_there = by_place (is_place folder (length lanes) this_folder this) refl
@@ -101,9 +104,34 @@ module _ {D G : Type 0} (words : DiskWords D) (folder : List ℕ) (count : ℕ) 
           this_folder this here
           ∙ same)
 
+  -- the disk of the next one came back unharmed, and no other
+  comes_back : IsLeftIn disks folder (length lanes) mid new → (this_folder : List ℕ) (this : ℕ)
+      → ComesBackWhole disks (old.lane_bytes this_folder this) (old.came_back this_folder this)
+      (new.came_back this_folder this)
+  comes_back left this_folder this = by_place (is_place folder (length lanes) this_folder this) refl
+    where
+      Back : List ℕ → ℕ → Type 0
+      Back f n = ComesBackWhole disks (old.lane_bytes f n) (old.came_back f n) (new.came_back f n)
+
+      here : Back folder (length lanes)
+      here = subst (λ (before : Option (List D)). ComesBackWhole disks (old.lane_bytes folder (length lanes))
+          before (new.came_back folder (length lanes))) (so_far.came_back folder (length lanes))
+          (subst (λ (b : Option (List ℕ)). ComesBackWhole disks b (mid.came_back folder (length lanes))
+          (new.came_back folder (length lanes))) next_bytes left.back)
+
+      by_place : (same : Bool) → is_place folder (length lanes) this_folder this ≡ same → Back this_folder
+          this
+      by_place true is =
+          let at = one_place folder (length lanes) this_folder this is in
+          subst (λ (f : List ℕ). Back f this) at.0 (subst (λ (n : ℕ). Back folder n) at.1 here)
+      by_place false is = inl (left.others_back this_folder this
+          ∙ told_elsewhere mid.came_back folder (length lanes) (new.came_back folder (length lanes))
+          this_folder this is
+          ∙ so_far.came_back this_folder this)
+
   -- the next one can't be opened
-  pub stopped_next : length lanes < 64 → IsLeftIn folder (length lanes) mid new
-      → HasStopped words folder old new lanes
+  pub stopped_next : length lanes < 64 → IsLeftIn disks folder (length lanes) mid new
+      → HasStopped disks folder old new lanes
   stopped_next few left = record {
     few = few;
     out = λ this_folder this. left.out this_folder this ∙ so_far.out this_folder this;
@@ -116,10 +144,17 @@ module _ {D G : Type 0} (words : DiskWords D) (folder : List ℕ) (count : ℕ) 
         ∙ so_far.bytes this_folder this
         ∙ told_before old.lane_bytes folder (length lanes) None this_folder this
         (not_among_fewer folder (length lanes) 64 this_folder this (omega (arith, few)) not_there);
+    back = comes_back left;
+    not_back = λ place inside. left.others_back folder place
+        ∙ told_elsewhere mid.came_back folder (length lanes) (new.came_back folder (length lanes)) folder
+        place
+        (apart folder (length lanes) folder place inside)
+        ∙ so_far.came_back folder place;
+    unharmed = λ place lane is. (so_far.each place lane is).unharmed;
     files = λ name. left.files name ∙ so_far.files name;
     rising = subst (λ (before : ℕ). before ≤ new.faults) so_far.calm left.rising;
     calm = λ place lane is. (so_far.each place lane is).calm;
-    seen = λ place lane is. reads_them words.honest words.seen words.images lane.log.journal.disk
+    seen = λ place lane is. reads_them disks.honest disks.seen disks.images lane.log.journal.disk
         (old.lane_bytes folder place) (so_far.each place lane is).bytes;
   }
 

@@ -1,5 +1,5 @@
 -- Lanes whose gateways serve them.
-use Rattle.std.proofs.Common.{◌≡◌, ◌⊎◌, ◌+◌, ℕ, List, [], ◌∷◌, ◌++◌, length, Some, inl, inr, Result, Ok, Err}
+use Rattle.std.proofs.Common.{◌≡◌, ◌⊎◌, ℕ, List, [], ◌∷◌, ◌++◌, length, Some, inl, inr, Result, Ok, Err}
 use Rattle.std.proofs.Common.{OnOk, sym, subst}
 use Rattle.std.specs.List.{slice_get}
 use Rattle.kb_lane.specs.Lanes.{LaneValue}

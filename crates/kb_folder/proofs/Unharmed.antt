@@ -41,7 +41,8 @@ module _ (folder : List ℕ) (lanes : ℕ) (records : List (List ℕ)) (old new 
   outside : (count touched : ℕ) → FoundsFirst folder lanes count touched records old new → (lane : ℕ)
       → (lane < count) ⊎ (touched ≤ lane) → IsUnharmed lanes lane records (old folder lane) (new folder lane)
   outside count touched founds lane = ⊎_elim
-      (λ less. made_unharmed lanes lane records (old folder lane) (new folder lane) (founds.founded lane less))
+      (λ less. made_unharmed lanes lane records (old folder lane) (new folder lane)
+      (founds.founded lane less))
       (λ more. same_unharmed lanes lane records (old folder lane) (new folder lane)
       (founds.others folder lane (not_among folder touched folder lane more)))
 

@@ -29,41 +29,44 @@ pub fn found_lanes<V: Vault>(
     catalog: &str,
     overdue: &str,
 ) -> Result<(), Unfounded>
-    requires inside { (lane : ℕ) → V.is_out vault.old folder.now lane ≡ false }
+    requires inside { (lane : ℕ) → (V.told vault.old).is_out folder.now lane ≡ false }
     requires few_lanes { lanes ≤ 64 }
     ensures founded { OnOk result (FoundsWith today folder.now lanes lanes lanes
-        (V.file_bytes vault.old catalog.now) (V.file_bytes vault.old overdue.now) (V.lane_bytes vault.old)
-        (V.lane_bytes vault.new)) }
+        ((V.told vault.old).file_bytes catalog.now) ((V.told vault.old).file_bytes overdue.now)
+        (V.told vault.old).lane_bytes
+        (V.told vault.new).lane_bytes) }
     ensures accepted { (version : CatalogText) (states : OverdueText)
         → AreNewFrom no_machine (first_commands today version states) }
     ensures said { (version : CatalogText) (states : OverdueText)
         → (replay (first_commands today version states)).texts.world ≡ first_world version states }
-    ensures refused { IfSome (V.file_bytes vault.old catalog.now)
-        (λ version. IfSome (V.file_bytes vault.old overdue.now)
+    ensures refused { IfSome ((V.told vault.old).file_bytes catalog.now)
+        (λ version. IfSome ((V.told vault.old).file_bytes overdue.now)
         (λ states. TellsFault (text_fault version states) result)) }
     ensures untouched { (fault : AnyTextFault) → result ≡ Err (Unfounded.Text fault)
-        → SameLanes (V.lane_bytes vault.new) (V.lane_bytes vault.old) }
+        → SameLanes (V.told vault.new).lane_bytes (V.told vault.old).lane_bytes }
     ensures not_empty { (lane : ℕ) → result ≡ Err (Unfounded.NotEmpty lane) → (lane < lanes)
-        × IsLeft (V.lane_bytes vault.old folder.now lane) (V.lane_bytes vault.new folder.now lane) }
+        × IsLeft ((V.told vault.old).lane_bytes folder.now lane)
+        ((V.told vault.new).lane_bytes folder.now lane) }
     ensures before { (lane : ℕ) → result ≡ Err (Unfounded.NotEmpty lane)
         → FoundsWith today folder.now lanes lane
-        (lane + 1) (V.file_bytes vault.old catalog.now) (V.file_bytes vault.old overdue.now)
-        (V.lane_bytes vault.old) (V.lane_bytes vault.new) }
-    ensures failed { result ≡ Err Unfounded.Disk → SameOrWith today (V.file_bytes vault.old catalog.now)
-        (V.file_bytes vault.old overdue.now) (FailsAtOne folder.now lanes)
-        (V.lane_bytes vault.old) (V.lane_bytes vault.new) }
+        (lane + 1) ((V.told vault.old).file_bytes catalog.now) ((V.told vault.old).file_bytes overdue.now)
+        (V.told vault.old).lane_bytes (V.told vault.new).lane_bytes }
+    ensures failed { result ≡ Err Unfounded.Disk → SameOrWith today
+        ((V.told vault.old).file_bytes catalog.now)
+        ((V.told vault.old).file_bytes overdue.now) (FailsAtOne folder.now lanes)
+        (V.told vault.old).lane_bytes (V.told vault.new).lane_bytes }
     ensures no_memory { result ≡ Err Unfounded.NoMemory
-        → SameOrWith today (V.file_bytes vault.old catalog.now)
-        (V.file_bytes vault.old overdue.now) (StopsBeforeOne folder.now lanes)
-        (V.lane_bytes vault.old) (V.lane_bytes vault.new) }
-    ensures unharmed { OnErr result (SameOrWith today (V.file_bytes vault.old catalog.now)
-        (V.file_bytes vault.old overdue.now) (HarmsNone folder.now lanes)
-        (V.lane_bytes vault.old) (V.lane_bytes vault.new)) }
-    ensures others { SameFrom folder.now lanes (V.lane_bytes vault.old) (V.lane_bytes vault.new) }
-    ensures same_out { SameLanes (V.is_out vault.new) (V.is_out vault.old) }
-    ensures same_files { SameFiles (V.file_bytes vault.new) (V.file_bytes vault.old) }
-    ensures counted { CountsFaults (V.faults vault.old) (V.faults vault.new) result }
-    ensures rising { V.faults vault.old ≤ V.faults vault.new }
+        → SameOrWith today ((V.told vault.old).file_bytes catalog.now)
+        ((V.told vault.old).file_bytes overdue.now) (StopsBeforeOne folder.now lanes)
+        (V.told vault.old).lane_bytes (V.told vault.new).lane_bytes }
+    ensures unharmed { OnErr result (SameOrWith today ((V.told vault.old).file_bytes catalog.now)
+        ((V.told vault.old).file_bytes overdue.now) (HarmsNone folder.now lanes)
+        (V.told vault.old).lane_bytes (V.told vault.new).lane_bytes) }
+    ensures others { SameFrom folder.now lanes (V.told vault.old).lane_bytes (V.told vault.new).lane_bytes }
+    ensures same_out { SameLanes (V.told vault.new).is_out (V.told vault.old).is_out }
+    ensures same_files { SameFiles (V.told vault.new).file_bytes (V.told vault.old).file_bytes }
+    ensures counted { CountsFaults (V.told vault.old).faults (V.told vault.new).faults result }
+    ensures rising { (V.told vault.old).faults ≤ (V.told vault.new).faults }
 {
     let (first, second) = match both_records(alloc, vault, today, catalog, overdue) {
         Ok(both) => both,

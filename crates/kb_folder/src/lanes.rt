@@ -20,16 +20,16 @@ pub(crate) fn found_each<V: Vault>(
     first: &[u8],
     second: &[u8],
 ) -> Result<(), Unfounded>
-    requires inside { (lane : ℕ) → V.is_out vault.old folder.now lane ≡ false }
+    requires inside { (lane : ℕ) → (V.told vault.old).is_out folder.now lane ≡ false }
     requires few_lanes { lanes ≤ 64 }
     requires sized_first { IsSized first.now }
     requires sized_second { IsSized second.now }
-    ensures founds { Founds folder.now lanes (first.now ∷ second.now ∷ []) (V.lane_bytes vault.old)
-        (V.lane_bytes vault.new) result }
-    ensures same_out { SameLanes (V.is_out vault.new) (V.is_out vault.old) }
-    ensures same_files { SameFiles (V.file_bytes vault.new) (V.file_bytes vault.old) }
-    ensures counted { CountsFaults (V.faults vault.old) (V.faults vault.new) result }
-    ensures rising { V.faults vault.old ≤ V.faults vault.new }
+    ensures founds { Founds folder.now lanes (first.now ∷ second.now ∷ []) (V.told vault.old).lane_bytes
+        (V.told vault.new).lane_bytes result }
+    ensures same_out { SameLanes (V.told vault.new).is_out (V.told vault.old).is_out }
+    ensures same_files { SameFiles (V.told vault.new).file_bytes (V.told vault.old).file_bytes }
+    ensures counted { CountsFaults (V.told vault.old).faults (V.told vault.new).faults result }
+    ensures rising { (V.told vault.old).faults ≤ (V.told vault.new).faults }
 {
     for lane in 0..lanes {
         if let Err(fault) = found_lane(alloc, vault, folder, lane, lanes, first, second) {
@@ -49,19 +49,20 @@ fn found_lane<V: Vault>(
     first: &[u8],
     second: &[u8],
 ) -> Result<(), Unfounded>
-    requires inside { V.is_out vault.old folder.now lane ≡ false }
+    requires inside { (V.told vault.old).is_out folder.now lane ≡ false }
     requires one_of_them { lane < lanes }
     requires few_lanes { lanes ≤ 64 }
     requires sized_first { IsSized first.now }
     requires sized_second { IsSized second.now }
     ensures founds { FoundsOne lanes lane (first.now ∷ second.now ∷ [])
-        (V.lane_bytes vault.old folder.now lane)
-        (V.lane_bytes vault.new folder.now lane) result }
-    ensures others { SameElsewhere folder.now lane (V.lane_bytes vault.old) (V.lane_bytes vault.new) }
-    ensures same_out { SameLanes (V.is_out vault.new) (V.is_out vault.old) }
-    ensures same_files { SameFiles (V.file_bytes vault.new) (V.file_bytes vault.old) }
-    ensures counted { CountsFaults (V.faults vault.old) (V.faults vault.new) result }
-    ensures rising { V.faults vault.old ≤ V.faults vault.new }
+        ((V.told vault.old).lane_bytes folder.now lane)
+        ((V.told vault.new).lane_bytes folder.now lane) result }
+    ensures others { SameElsewhere folder.now lane (V.told vault.old).lane_bytes
+        (V.told vault.new).lane_bytes }
+    ensures same_out { SameLanes (V.told vault.new).is_out (V.told vault.old).is_out }
+    ensures same_files { SameFiles (V.told vault.new).file_bytes (V.told vault.old).file_bytes }
+    ensures counted { CountsFaults (V.told vault.old).faults (V.told vault.new).faults result }
+    ensures rising { (V.told vault.old).faults ≤ (V.told vault.new).faults }
 {
     let disk = match vault.lane(alloc, folder, lane) {
         Ok(disk) => disk,

@@ -1,32 +1,37 @@
 //! A lane given back.
-ghost use Rattle.std.specs.Prelude.{◌≡◌, ◌<◌, true, IsTrue};
-ghost use Rattle.kb_lane.specs.Logs.{StandsForLog};
+ghost use Rattle.std.specs.Prelude.{◌≡◌, ◌<◌, true, false, IsTrue};
+ghost use Rattle.kb_gateway.specs.Told.{payments_asked};
+ghost use Rattle.kb_lane.specs.Logs.{KeepsAll, StandsForLog};
 ghost use Rattle.kb_lane.specs.Asking.{WasAskedOnce};
 ghost use Rattle.kb_lane.specs.Lanes.{opened_of};
-ghost use Rattle.kb_folder.specs.Folders.{told_of, words_of};
-ghost use Rattle.kb_folder.specs.OneLane.{TakesBack};
+ghost use Rattle.kb_folder.specs.OneLane.{GatewayIsBack, TakesBack};
 
 use kb_disk::Vault;
-use kb_gateway::Gateway;
+use kb_gateway::Market;
 use kb_lane::Lane;
 
-/// Gives a lane back to its folder, as the one of this number.
-pub fn give_back<V: Vault, G: Gateway + Drop>(
+/// Gives a lane's disk back to its folder and its gateway to the market, as those of this number.
+pub fn give_back<V: Vault, M: Market>(
     vault: &mut V,
+    market: &mut M,
     folder: &str,
     number: u32,
-    lane: Lane<V::Disk, G>,
+    lane: Lane<V::Disk, M::Gateway>,
 )
-    requires outside { V.is_out vault.old folder.now number ≡ true }
-    ensures back { TakesBack (words_of V.Disk.honest V.Disk.seen V.Disk.images V.Disk.fault_count)
+    requires outside { (V.told vault.old).is_out folder.now number ≡ true }
+    ensures back { TakesBack V.Disk.told
         folder.now number
-        (told_of V.is_out V.lane_bytes V.file_bytes V.faults vault.old)
-        (told_of V.is_out V.lane_bytes V.file_bytes V.faults vault.new) lane.log.journal.disk }
-    ensures stands { IsTrue (V.Disk.honest lane.log.journal.disk)
-        → StandsForLog lane.log (V.Disk.seen lane.log.journal.disk) }
-    ensures caused { lane.log.journal.stopped ≡ true → 0 < V.Disk.fault_count lane.log.journal.disk }
-    ensures once { WasAskedOnce (opened_of lane) (G.asked lane.gateway) lane.own }
+        (V.told vault.old)
+        (V.told vault.new) lane.log.journal.disk }
+    ensures gateway { GatewayIsBack number (M.told market.old) (M.told market.new) lane.gateway }
+    ensures stands { IsTrue (V.Disk.told.honest lane.log.journal.disk)
+        → StandsForLog lane.log (V.Disk.told.seen lane.log.journal.disk) }
+    ensures durable { IsTrue (V.Disk.told.honest lane.log.journal.disk) → lane.log.journal.stopped ≡ false
+        → KeepsAll V.Disk.told.images lane.log }
+    ensures caused { lane.log.journal.stopped ≡ true → 0 < V.Disk.told.fault_count lane.log.journal.disk }
+    ensures once { WasAskedOnce (opened_of lane) (payments_asked M.Gateway.told lane.gateway) lane.own }
 {
-    let (disk, _) = lane.into_parts();
+    let (disk, gateway) = lane.into_parts();
     vault.back(folder, number, disk);
+    market.back(number, gateway);
 }

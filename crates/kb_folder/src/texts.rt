@@ -27,20 +27,21 @@ pub(crate) fn both_records<V: Vault>(
     overdue: &str,
 ) -> Result<(Vec<u8>, Vec<u8>), Unfounded>
     ensures records { IfOk result (λ both. (version : CatalogText) × (states : OverdueText)
-        × AreTextsOf (V.file_bytes vault.old catalog.now) (V.file_bytes vault.old overdue.now) version states
+        × AreTextsOf ((V.told vault.old).file_bytes catalog.now) ((V.told vault.old).file_bytes overdue.now)
+        version states
         × (both.0.items ≡ payload (today, catalog_command version))
         × (both.1.items ≡ payload (today, overdue_command states))) }
     ensures sized_first { IfOk result (λ both. IsSized both.0.items) }
     ensures sized_second { IfOk result (λ both. IsSized both.1.items) }
-    ensures judged { IfSome (V.file_bytes vault.old catalog.now)
-        (λ version. IfSome (V.file_bytes vault.old overdue.now)
+    ensures judged { IfSome ((V.told vault.old).file_bytes catalog.now)
+        (λ version. IfSome ((V.told vault.old).file_bytes overdue.now)
         (λ states. TellsFault (text_fault version states) result)) }
     ensures of_text { (lane : ℕ) → result ≡ Err (Unfounded.NotEmpty lane) → ⊥ }
-    ensures same_out { SameLanes (V.is_out vault.new) (V.is_out vault.old) }
-    ensures same_lanes { SameLanes (V.lane_bytes vault.new) (V.lane_bytes vault.old) }
-    ensures same_files { SameFiles (V.file_bytes vault.new) (V.file_bytes vault.old) }
-    ensures counted { CountsFaults (V.faults vault.old) (V.faults vault.new) result }
-    ensures rising { V.faults vault.old ≤ V.faults vault.new }
+    ensures same_out { SameLanes (V.told vault.new).is_out (V.told vault.old).is_out }
+    ensures same_lanes { SameLanes (V.told vault.new).lane_bytes (V.told vault.old).lane_bytes }
+    ensures same_files { SameFiles (V.told vault.new).file_bytes (V.told vault.old).file_bytes }
+    ensures counted { CountsFaults (V.told vault.old).faults (V.told vault.new).faults result }
+    ensures rising { (V.told vault.old).faults ≤ (V.told vault.new).faults }
 {
     let first = catalog_record(alloc, vault, today, catalog)?;
     match overdue_record(alloc, vault, today, overdue) {
@@ -57,17 +58,17 @@ fn catalog_record<V: Vault>(
     name: &str,
 ) -> Result<Vec<u8>, Unfounded>
     ensures record { IfOk result (λ bytes. (text : CatalogText)
-        × IsTextOf (V.file_bytes vault.old name.now) text.text
+        × IsTextOf ((V.told vault.old).file_bytes name.now) text.text
         × IsCatalogText text × (bytes.items ≡ payload (today, catalog_command text))) }
     ensures sized { IfOk result (λ bytes. IsSized bytes.items) }
-    ensures judged { IfSome (V.file_bytes vault.old name.now) (λ whole.
+    ensures judged { IfSome ((V.told vault.old).file_bytes name.now) (λ whole.
         IsReadAs (catalog_read (read_part whole)) result) }
     ensures of_text { (lane : ℕ) → result ≡ Err (Unfounded.NotEmpty lane) → ⊥ }
-    ensures same_out { SameLanes (V.is_out vault.new) (V.is_out vault.old) }
-    ensures same_lanes { SameLanes (V.lane_bytes vault.new) (V.lane_bytes vault.old) }
-    ensures same_files { SameFiles (V.file_bytes vault.new) (V.file_bytes vault.old) }
-    ensures counted { CountsFaults (V.faults vault.old) (V.faults vault.new) result }
-    ensures rising { V.faults vault.old ≤ V.faults vault.new }
+    ensures same_out { SameLanes (V.told vault.new).is_out (V.told vault.old).is_out }
+    ensures same_lanes { SameLanes (V.told vault.new).lane_bytes (V.told vault.old).lane_bytes }
+    ensures same_files { SameFiles (V.told vault.new).file_bytes (V.told vault.old).file_bytes }
+    ensures counted { CountsFaults (V.told vault.old).faults (V.told vault.new).faults result }
+    ensures rising { (V.told vault.old).faults ≤ (V.told vault.new).faults }
 {
     let text = vault.file(alloc, name)?;
     Ok(written_catalog(alloc, today, text)?)
@@ -81,17 +82,17 @@ fn overdue_record<V: Vault>(
     name: &str,
 ) -> Result<Vec<u8>, Unfounded>
     ensures record { IfOk result (λ bytes. (text : OverdueText)
-        × IsTextOf (V.file_bytes vault.old name.now) text.text
+        × IsTextOf ((V.told vault.old).file_bytes name.now) text.text
         × IsOverdueText text × (bytes.items ≡ payload (today, overdue_command text))) }
     ensures sized { IfOk result (λ bytes. IsSized bytes.items) }
-    ensures judged { IfSome (V.file_bytes vault.old name.now) (λ whole.
+    ensures judged { IfSome ((V.told vault.old).file_bytes name.now) (λ whole.
         IsReadAs (overdue_read (read_part whole)) result) }
     ensures of_text { (lane : ℕ) → result ≡ Err (Unfounded.NotEmpty lane) → ⊥ }
-    ensures same_out { SameLanes (V.is_out vault.new) (V.is_out vault.old) }
-    ensures same_lanes { SameLanes (V.lane_bytes vault.new) (V.lane_bytes vault.old) }
-    ensures same_files { SameFiles (V.file_bytes vault.new) (V.file_bytes vault.old) }
-    ensures counted { CountsFaults (V.faults vault.old) (V.faults vault.new) result }
-    ensures rising { V.faults vault.old ≤ V.faults vault.new }
+    ensures same_out { SameLanes (V.told vault.new).is_out (V.told vault.old).is_out }
+    ensures same_lanes { SameLanes (V.told vault.new).lane_bytes (V.told vault.old).lane_bytes }
+    ensures same_files { SameFiles (V.told vault.new).file_bytes (V.told vault.old).file_bytes }
+    ensures counted { CountsFaults (V.told vault.old).faults (V.told vault.new).faults result }
+    ensures rising { (V.told vault.old).faults ≤ (V.told vault.new).faults }
 {
     let text = vault.file(alloc, name)?;
     Ok(written_overdue(alloc, today, text)?)

@@ -23,15 +23,15 @@ pub(crate) fn write_lane<D: Disk>(
     requires few_lanes { lanes ≤ 64 }
     requires sized_first { IsSized first.now }
     requires sized_second { IsSized second.now }
-    ensures empty { IsTrue (D.honest disk) → OnOk result.1 (D.seen disk ≡ []) }
-    ensures stands { IsTrue (D.honest disk) → OnOk result.1
-        (StandsFor lanes lane (first.now ∷ second.now ∷ []) (D.seen result.0)) }
-    ensures calm { OnOk result.1 (D.fault_count result.0 ≡ D.fault_count disk) }
-    ensures unharmed { IsTrue (D.honest disk) → Only (D.seen disk) (D.images disk)
+    ensures empty { IsTrue (D.told.honest disk) → OnOk result.1 (D.told.seen disk ≡ []) }
+    ensures stands { IsTrue (D.told.honest disk) → OnOk result.1
+        (StandsFor lanes lane (first.now ∷ second.now ∷ []) (D.told.seen result.0)) }
+    ensures calm { OnOk result.1 (D.told.fault_count result.0 ≡ D.told.fault_count disk) }
+    ensures unharmed { IsTrue (D.told.honest disk) → Only (D.told.seen disk) (D.told.images disk)
         → OnErr result.1 (HasOrBegins lanes lane (first.now ∷ second.now ∷ [])
-        (D.seen disk) (D.seen result.0)) }
+        (D.told.seen disk) (D.told.seen result.0)) }
     ensures refused { IfErr result.1 (λ fault.
-        RefusesToCreate D.honest D.seen D.images D.fault_count disk fault result.0) }
+        RefusesToCreate D.told.honest D.told.seen D.told.images D.told.fault_count disk fault result.0) }
 {
     match Journal::create(disk, lane, lanes) {
         Ok(journal) => filled(journal, first, second),
@@ -46,13 +46,13 @@ fn filled<D: Disk>(journal: Journal<D>, first: &[u8], second: &[u8]) -> (D, Resu
     requires placed { journal.gate ≡ 16 }
     requires sized_first { IsSized first.now }
     requires sized_second { IsSized second.now }
-    ensures stands { Holds D.honest D.seen D.images journal [] → OnOk result.1
-        (StandsFor journal.lanes journal.lane (first.now ∷ second.now ∷ []) (D.seen result.0)) }
-    ensures begun { Holds D.honest D.seen D.images journal [] → OnErr result.1
-        (IsBegun journal.lanes journal.lane (first.now ∷ second.now ∷ []) (D.seen result.0)) }
-    ensures calm { OnOk result.1 (D.fault_count result.0 ≡ D.fault_count journal.disk) }
+    ensures stands { Holds D.told.honest D.told.seen D.told.images journal [] → OnOk result.1
+        (StandsFor journal.lanes journal.lane (first.now ∷ second.now ∷ []) (D.told.seen result.0)) }
+    ensures begun { Holds D.told.honest D.told.seen D.told.images journal [] → OnErr result.1
+        (IsBegun journal.lanes journal.lane (first.now ∷ second.now ∷ []) (D.told.seen result.0)) }
+    ensures calm { OnOk result.1 (D.told.fault_count result.0 ≡ D.told.fault_count journal.disk) }
     ensures fault { IfErr result.1 (λ fault. fault ≡ CreateFault.DiskFault) }
-    ensures cause { OnErr result.1 (Rose (D.fault_count journal.disk) (D.fault_count result.0)) }
+    ensures cause { OnErr result.1 (Rose (D.told.fault_count journal.disk) (D.told.fault_count result.0)) }
 {
     let mut journal = journal;
     let added = add_both(&mut journal, first, second);
@@ -70,15 +70,16 @@ fn add_both<D: Disk>(
     requires placed { journal.old.gate ≡ 16 }
     requires sized_first { IsSized first.now }
     requires sized_second { IsSized second.now }
-    ensures holds { Holds D.honest D.seen D.images journal.old [] → OnOk result
-        (Holds D.honest D.seen D.images journal.new (first.now ∷ second.now ∷ [])) }
-    ensures begun { Holds D.honest D.seen D.images journal.old [] → OnErr result
+    ensures holds { Holds D.told.honest D.told.seen D.told.images journal.old [] → OnOk result
+        (Holds D.told.honest D.told.seen D.told.images journal.new (first.now ∷ second.now ∷ [])) }
+    ensures begun { Holds D.told.honest D.told.seen D.told.images journal.old [] → OnErr result
         (IsBegun journal.old.lanes journal.old.lane (first.now ∷ second.now ∷ [])
-        (D.seen journal.new.disk)) }
+        (D.told.seen journal.new.disk)) }
     ensures same { (journal.new.lanes ≡ journal.old.lanes) × (journal.new.lane ≡ journal.old.lane) }
-    ensures calm { OnOk result (D.fault_count journal.new.disk ≡ D.fault_count journal.old.disk) }
+    ensures calm { OnOk result (D.told.fault_count journal.new.disk ≡ D.told.fault_count journal.old.disk) }
     ensures fault { IfErr result (λ fault. fault ≡ CreateFault.DiskFault) }
-    ensures cause { OnErr result (Rose (D.fault_count journal.old.disk) (D.fault_count journal.new.disk)) }
+    ensures cause { OnErr result
+        (Rose (D.told.fault_count journal.old.disk) (D.told.fault_count journal.new.disk)) }
 {
     if add(journal, first).is_err() {
         return Err(CreateFault::DiskFault);
@@ -95,17 +96,20 @@ fn add<D: Disk>(journal: &mut Journal<D>, bytes: &[u8]) -> Result<(), Failed>
     requires few { journal.old.count ≤ 1 }
     requires short { journal.old.gate ≤ 65557 }
     requires sized { IsSized bytes.now }
-    ensures holds { (records : List (List ℕ)) → Holds D.honest D.seen D.images journal.old records
-        → OnOk result (Holds D.honest D.seen D.images journal.new (records ++ bytes.now ∷ [])) }
-    ensures torn { (records : List (List ℕ)) → Holds D.honest D.seen D.images journal.old records
+    ensures holds { (records : List (List ℕ)) → Holds D.told.honest D.told.seen D.told.images journal.old
+        records
+        → OnOk result (Holds D.told.honest D.told.seen D.told.images journal.new (records ++ bytes.now ∷ [])) }
+    ensures torn { (records : List (List ℕ)) → Holds D.told.honest D.told.seen D.told.images journal.old
+        records
         → OnErr result (IsWithOrWithout journal.old.lanes journal.old.lane records bytes.now
-        (D.seen journal.new.disk)) }
+        (D.told.seen journal.new.disk)) }
     ensures running { OnOk result (journal.new.stopped ≡ false) }
     ensures counted { OnOk result (journal.new.count ≡ journal.old.count + 1) }
     ensures placed { OnOk result (journal.new.gate ≡ journal.old.gate + length bytes.now + 5) }
     ensures same { (journal.new.lanes ≡ journal.old.lanes) × (journal.new.lane ≡ journal.old.lane) }
-    ensures calm { OnOk result (D.fault_count journal.new.disk ≡ D.fault_count journal.old.disk) }
-    ensures cause { OnErr result (Rose (D.fault_count journal.old.disk) (D.fault_count journal.new.disk)) }
+    ensures calm { OnOk result (D.told.fault_count journal.new.disk ≡ D.told.fault_count journal.old.disk) }
+    ensures cause { OnErr result
+        (Rose (D.told.fault_count journal.old.disk) (D.told.fault_count journal.new.disk)) }
 {
     match journal.append(bytes) {
         Ok(_) => Ok(()),

@@ -11,7 +11,7 @@ use Rattle.kb_days.specs.Calendar.{last_day}
 use Rattle.kb_payment.specs.declared.attempt.Attempt.{Attempt}
 use Rattle.kb_payment.specs.declared.attempt.Status.{Status}
 use Rattle.kb_gateway.specs.declared.order.Asked.{Asked}
-use Rattle.kb_gateway.specs.Answers.{Notes}
+use Rattle.kb_ports.specs.Notes.{Notes}
 use Rattle.kb_codec.specs.declared.command.Command.{Command}
 use Rattle.kb_codec.specs.declared.command.Command.TheVariants as kinds
 use Rattle.kb_codec.specs.declared.action.Action.TheVariants as actions

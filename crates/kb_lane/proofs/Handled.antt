@@ -1,11 +1,10 @@
 -- One entry of an outbox, and a run of them.
 use Rattle.std.proofs.Common.{◌≡◌, ℕ, suc, ◌≤◌, ◌+◌, arith, Bool, List, [], ◌∷◌, Option, None, Some, ap}
-use Rattle.kb_gateway.specs.declared.order.Asked.{Asked}
-use Rattle.kb_gateway.specs.declared.told.Saying.{Saying}
 use Rattle.kb_codec.specs.declared.command.Command.{Command}
 use Rattle.kb_book.specs.declared.step.Step.{Step}
 use Rattle.kb_book.specs.declared.step.Step.TheVariants as steps
 use Rattle.kb_codec.specs.Entries.{Entry}
+use Rattle.kb_gateway.specs.Told.{GatewayTold}
 use Rattle.kb_lane.specs.declared.work.Work.{Work}
 use Rattle.kb_lane.specs.declared.work.Work.TheVariants.{Ask, Check}
 use Rattle.kb_lane.specs.Lanes.{LaneValue, StandsThroughout, machine_of}
@@ -15,17 +14,16 @@ use Rattle.kb_lane.specs.Draining.{due_of, with_outbox, works_after, IsWritten, 
 use Rattle.kb_lane.proofs.Going.{well_none, well_writes, well_accepts}
 use Rattle.kb_lane.specs.Drains.{HandlesFront, EndsAfter}
 
-module _ {D G : Type 0} (fault_count : D → ℕ) (asked : G → Option (List Asked))
-    (said : G → Option (List Saying))
-    (faults : G → ℕ) (today : ℕ) (old new : LaneValue D G) (step : Step) where
+module _ {D G : Type 0} (fault_count : D → ℕ) (gateways : GatewayTold G) (today : ℕ)
+    (old new : LaneValue D G) (step : Step) where
   -- what is told of each kind of front tells of whichever stands there
   pub handles_front : (outbox : List Work) → old.outbox ≡ outbox
       → (old.outbox ≡ [] → step ≡ steps.Idle) → (old.outbox ≡ [] → new ≡ old)
       → ((account : List ℕ) (later : List Work) → old.outbox ≡ Check account ∷ later
       → Looks fault_count old new today (Check account) later (due_of (machine_of old) today account) step)
       → ((account key : List ℕ) (later : List Work) → old.outbox ≡ Ask account key ∷ later
-      → Orders fault_count asked said faults old new today account key later step)
-      → HandlesFront fault_count asked said faults today outbox old new step
+      → Orders fault_count gateways old new today account key later step)
+      → HandlesFront fault_count gateways today outbox old new step
   handles_front [] is idle rests looks orders = (idle is, rests is)
   handles_front (Check account ∷ later) is idle rests looks orders = looks account later is
   handles_front (Ask account key ∷ later) is idle rests looks orders = orders account key later is
@@ -47,14 +45,14 @@ module _ {D G : Type 0} (fault_count : D → ℕ) (asked : G → Option (List As
         new (today, command) lanes lane step looks.0 moments
 
     asks-well : (account key : List ℕ) (later : List Work) (how : Step)
-        → Asks fault_count asked said faults old new today account key later how
+        → Asks fault_count gateways old new today account key later how
         → GoesWell honest moment left_since old.log new.log
     asks-well account key later how asks =
         well_accepts honest moment left_since fault_count (with_outbox old later) new today lanes lane
         (settled_by account key asks.answer) how asks.settled moments
 
     orders-well : (account key : List ℕ) (later : List Work) (how : Step)
-        → Orders fault_count asked said faults old new today account key later how
+        → Orders fault_count gateways old new today account key later how
         → GoesWell honest moment left_since old.log new.log
     orders-well account key later (steps.Stopped count) orders =
         well_none honest moment left_since old.log new.log (ap (λ lane. lane.log) orders.2)
@@ -66,7 +64,7 @@ module _ {D G : Type 0} (fault_count : D → ℕ) (asked : G → Option (List As
     orders-well account key later (steps.Full commands size) orders =
         asks-well account key later (steps.Full commands size) orders
 
-    pub front_well : (outbox : List Work) → HandlesFront fault_count asked said faults today
+    pub front_well : (outbox : List Work) → HandlesFront fault_count gateways today
         outbox old new step
         → GoesWell honest moment left_since old.log new.log
     front_well [] handles = well_none honest moment left_since old.log new.log

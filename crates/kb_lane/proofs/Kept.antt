@@ -6,7 +6,7 @@ use Rattle.std.proofs.lemmas.Grind.{common_steps}
 use Rattle.std.proofs.lemmas.List.Elements.{All-head}
 use Rattle.kb_days.specs.Calendar.{last_day}
 use Rattle.kb_gateway.specs.declared.order.Asked.{Asked}
-use Rattle.kb_gateway.specs.Answers.{Notes}
+use Rattle.kb_ports.specs.Notes.{Notes}
 use Rattle.kb_payment.specs.declared.attempt.Status.{Status}
 use Rattle.kb_codec.specs.declared.command.Command.{Command}
 use Rattle.kb_codec.specs.declared.command.Command.TheVariants as kinds

@@ -8,10 +8,9 @@ use Rattle.std.proofs.lemmas.List.Sums.{sum_by-append, sum_by-cons}
 use Rattle.std.proofs.lemmas.Slice.Eq.{bytes_eq-Decides}
 use Rattle.kb_base.specs.declared.fault.Failed.{Failed}
 use Rattle.kb_days.specs.Calendar.{last_day}
-use Rattle.kb_gateway.specs.declared.order.Asked.{Asked}
-use Rattle.kb_gateway.specs.declared.told.Saying.{Saying}
 use Rattle.kb_gateway.specs.declared.told.Told.{Told}
 use Rattle.kb_gateway.specs.declared.told.Told.TheVariants as told
+use Rattle.kb_gateway.specs.Told.{GatewayTold}
 use Rattle.kb_codec.specs.declared.command.Command.{Command}
 use Rattle.kb_codec.specs.declared.command.Command.TheVariants as kinds
 use Rattle.kb_codec.specs.declared.action.Action.TheVariants as actions
@@ -167,9 +166,8 @@ settled-is account key (Ok told.Canceled) command is = (status.PluginFailure, cc
 settled-is account key (Ok told.Undefined) command is = absurd (none-some command is)
 settled-is account key (Err failed) command is = absurd (none-some command is)
 
-module _ {D G : Type 0} (fault_count : D → ℕ) (asked : G → Option (List Asked))
-    (said : G → Option (List Saying))
-    (faults : G → ℕ) (old new : LaneValue D G) (today : ℕ) (last : today ≤ last_day)
+module _ {D G : Type 0} (fault_count : D → ℕ) (gateways : GatewayTold G) (old new : LaneValue D G)
+    (today : ℕ) (last : today ≤ last_day)
     (few : length old.log.history < 2 ^ 64) where
   looks-take : (account : List ℕ) (later : List Work) → old.outbox ≡ Check account ∷ later
       → Looks fault_count old new today (Check account) later
@@ -208,7 +206,7 @@ module _ {D G : Type 0} (fault_count : D → ℕ) (asked : G → Option (List As
           by_due book (next_due (machine_of old).texts.world book today) there refl looks
 
   asks-take : (account key : List ℕ) (later : List Work) → old.outbox ≡ Ask account key ∷ later
-      → Asks fault_count asked said faults old new today account key later steps.Done
+      → Asks fault_count gateways old new today account key later steps.Done
       → lane_work today new < lane_work today old
   asks-take account key later first asks = by_answer (settled_by account key asks.answer) refl asks.settled
     where
@@ -234,7 +232,7 @@ module _ {D G : Type 0} (fault_count : D → ℕ) (asked : G → Option (List As
       → ((account : List ℕ) (later : List Work) → old.outbox ≡ Check account ∷ later
       → Looks fault_count old new today (Check account) later (due_of (machine_of old) today account) step)
       → ((account key : List ℕ) (later : List Work) → old.outbox ≡ Ask account key ∷ later
-      → Orders fault_count asked said faults old new today account key later step)
+      → Orders fault_count gateways old new today account key later step)
       → step ≡ steps.Done → lane_work today new < lane_work today old
   front_takes_work (Check account) later step first looks orders done =
       let P : Step → Type 0
@@ -242,5 +240,5 @@ module _ {D G : Type 0} (fault_count : D → ℕ) (asked : G → Option (List As
       (due_of (machine_of old) today account) it in
       looks-take account later first (subst P done (looks account later first))
   front_takes_work (Ask account key) later step first looks orders done =
-      let P : Step → Type 0 = λ it. Orders fault_count asked said faults old new today account key later it in
+      let P : Step → Type 0 = λ it. Orders fault_count gateways old new today account key later it in
       asks-take account key later first (subst P done (orders account key later first))

@@ -1,9 +1,9 @@
 -- What the look-up of a payment does to a log.
-use Rattle.std.proofs.Common.{◌≡◌, ℕ, Bool, true, false, true≢false, Option, None, Some, List, refl, sym, ap}
+use Rattle.std.proofs.Common.{◌≡◌, ℕ, Bool, false, true≢false, Option, None, Some, List, refl, sym, ap}
 use Rattle.std.proofs.Common.{◌∙◌}
 use Rattle.kb_codec.specs.declared.command.Command.{Command}
 use Rattle.kb_gateway.specs.declared.order.Asked.{Asked}
-use Rattle.kb_gateway.specs.declared.told.Saying.{Saying}
+use Rattle.kb_gateway.specs.Told.{GatewayTold}
 use Rattle.kb_book.specs.declared.step.Step.{Step}
 use Rattle.kb_book.specs.declared.step.Step.TheVariants as steps
 use Rattle.kb_lane.specs.Lanes.{LaneValue, StandsWithin}
@@ -13,7 +13,7 @@ use Rattle.kb_lane.specs.Going.{GoesOn, GoesWell, StandsPast}
 use Rattle.kb_lane.proofs.Within.{past_none}
 
 module _ {D G : Type 0} (honest : D → Bool) (moment : D → ℕ) (left_since : D → ℕ → List ℕ → Type 0)
-    (fault_count : D → ℕ) (asked : G → Option (List Asked)) (said : G → Option (List Saying)) (faults : G → ℕ)
+    (fault_count : D → ℕ) (gateways : GatewayTold G)
     (today : ℕ) (old new : LaneValue D G) (one : Asked)
     (further : GoesOn old.log.history new.log.history)
     (within : StandsWithin honest moment left_since old.log new.log) where
@@ -33,7 +33,7 @@ module _ {D G : Type 0} (honest : D → Bool) (moment : D → ℕ) (left_since :
   left (Some command) steps.NoMemory accepts done running =
       past_none honest moment left_since old.log new.log accepts.0
 
-  ran : (step : Step) → LooksUp fault_count asked said faults old new today one step
+  ran : (step : Step) → LooksUp fault_count gateways old new today one step
       → (step ≡ steps.Done → StandsPast honest moment left_since old.log new.log)
       → GoesWell honest moment left_since old.log new.log
   ran step looks done = record {
@@ -44,7 +44,7 @@ module _ {D G : Type 0} (honest : D → Bool) (moment : D → ℕ) (left_since :
   }
 
   -- the look-up of a payment
-  pub looked_well : (step : Step) → Looked fault_count asked said faults today old new one step
+  pub looked_well : (step : Step) → Looked fault_count gateways today old new one step
       → (step ≡ steps.Done → StandsPast honest moment left_since old.log new.log)
       → GoesWell honest moment left_since old.log new.log
   looked_well (steps.Stopped count) looked done = record {

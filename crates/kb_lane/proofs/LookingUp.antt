@@ -14,7 +14,7 @@ use Rattle.kb_payment.specs.declared.attempt.Attempt.{Attempt}
 use Rattle.kb_payment.specs.declared.attempt.Status.{Status}
 use Rattle.kb_gateway.specs.declared.order.Asked.{Asked}
 use Rattle.kb_gateway.specs.declared.told.Seen.{Seen}
-use Rattle.kb_gateway.specs.declared.told.Saying.{Saying}
+use Rattle.kb_gateway.specs.Told.{GatewayTold}
 use Rattle.kb_codec.specs.declared.command.Command.{Command}
 use Rattle.kb_codec.specs.declared.command.Command.TheVariants as kinds
 use Rattle.kb_codec.specs.declared.command.Settle.{Settle}
@@ -109,16 +109,15 @@ news_differ present (Ok answer) status is =
     one same = cc
 
 -- a lane that runs doesn't tell that it has stopped
-module _ {D G : Type 0} (fault_count : D → ℕ) (asked : G → Option (List Asked))
-    (said : G → Option (List Saying))
-    (faults : G → ℕ) (today : ℕ) (old new : LaneValue D G) (one : Asked) where
+module _ {D G : Type 0} (fault_count : D → ℕ) (gateways : GatewayTold G) (today : ℕ)
+    (old new : LaneValue D G) (one : Asked) where
   accepts-running : (command : Option Command) (count : ℕ) → old.log.journal.stopped ≡ false
       → Accepts fault_count old new today command (steps.Stopped count) → ⊥
   accepts-running None count running accepts = absurd (let no = accepts.0 in cc)
   accepts-running (Some command) count running accepts = true≢false (sym accepts.0 ∙ running)
 
-  pub looks_looked : (step : Step) → LooksUp fault_count asked said faults old new today one step
-      → Looked fault_count asked said faults today old new one step
+  pub looks_looked : (step : Step) → LooksUp fault_count gateways old new today one step
+      → Looked fault_count gateways today old new one step
   looks_looked steps.Idle looks = looks
   looks_looked steps.Done looks = looks
   looks_looked steps.DiskFault looks = looks

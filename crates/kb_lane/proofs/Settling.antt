@@ -4,11 +4,10 @@ use Rattle.std.proofs.Common.{false, true≢false, refl, sym, ap, subst, ◌∙�
 use Rattle.kb_base.specs.declared.fault.Failed.{Failed}
 use Rattle.std.proofs.lemmas.Option.{none-some}
 use Rattle.kb_gateway.specs.Answers.{asked_of}
-use Rattle.kb_gateway.specs.declared.order.Asked.{Asked}
 use Rattle.kb_gateway.specs.declared.order.Order.{Order}
-use Rattle.kb_gateway.specs.declared.told.Saying.{Saying}
 use Rattle.kb_gateway.specs.declared.told.Told.{Told}
 use Rattle.kb_gateway.specs.declared.told.Told.TheVariants as told
+use Rattle.kb_gateway.specs.Told.{GatewayTold}
 use Rattle.kb_codec.specs.declared.command.Command.{Command}
 use Rattle.kb_codec.specs.declared.command.Command.TheVariants as kinds
 use Rattle.kb_payment.specs.declared.attempt.Attempt.{Attempt}
@@ -66,9 +65,8 @@ writes_from fault_count old other new entry (steps.Full commands size) log outbo
 writes_from fault_count old other new entry steps.NoMemory log outbox writes =
     (rw log writes.0, rw outbox writes.1)
 
-module _ {D G : Type 0} (fault_count : D → ℕ) (asked : G → Option (List Asked))
-    (said : G → Option (List Saying))
-    (faults : G → ℕ) (old new : LaneValue D G) (today : ℕ) (account key : List ℕ) (later : List Work) where
+module _ {D G : Type 0} (fault_count : D → ℕ) (gateways : GatewayTold G) (old new : LaneValue D G)
+    (today : ℕ) (account key : List ℕ) (later : List Work) where
   -- a lane that runs doesn't tell that it has stopped
   not-stopped : (command : Option Command) (count : ℕ) → old.log.journal.stopped ≡ false
       → Accepts fault_count (with_outbox old later) new today command (steps.Stopped count) → ⊥
@@ -77,8 +75,8 @@ module _ {D G : Type 0} (fault_count : D → ℕ) (asked : G → Option (List As
 
   -- what an answer leaves is what the handling of its order leaves
   pub asks_orders : (step : Step) → IsBusy step
-      → Asks fault_count asked said faults old new today account key later step
-      → Orders fault_count asked said faults old new today account key later step
+      → Asks fault_count gateways old new today account key later step
+      → Orders fault_count gateways old new today account key later step
   asks_orders steps.Idle busy asks = absurd busy
   asks_orders steps.Done busy asks = asks
   asks_orders steps.DiskFault busy asks = asks

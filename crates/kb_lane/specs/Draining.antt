@@ -1,13 +1,14 @@
 -- How a lane handles the entry at the front of its outbox.
 use Rattle.std.specs.Prelude.{ℕ, ◌≡◌, ◌+◌, ◌⊎◌, true, false, List, [], ◌∷◌, ◌++◌, length, Option, None, Some}
-use Rattle.std.specs.Prelude.{Result}
+use Rattle.std.specs.Prelude.{Result, Ok}
 use Rattle.kb_base.specs.declared.fault.Failed.{Failed}
 use Rattle.kb_base.specs.Faults.{HasCause}
-use Rattle.kb_gateway.specs.declared.order.Asked.{Asked}
 use Rattle.kb_gateway.specs.declared.order.Order.{Order}
 use Rattle.kb_gateway.specs.declared.told.Told.{Told}
-use Rattle.kb_gateway.specs.declared.told.Saying.{Saying}
-use Rattle.kb_gateway.specs.Answers.{Notes, asked_of, said_of_ask}
+use Rattle.kb_gateway.specs.declared.told.Told.TheVariants as told
+use Rattle.kb_ports.specs.Notes.{Notes}
+use Rattle.kb_gateway.specs.Answers.{asked_of, said_of_ask}
+use Rattle.kb_gateway.specs.Told.{GatewayTold}
 use Rattle.kb_codec.specs.declared.command.Command.{Command}
 use Rattle.kb_journal.specs.Keeping.{IsFull}
 use Rattle.kb_book.specs.Books.{BookValue}
@@ -64,12 +65,14 @@ Looks fault_count old new today front later (Some command) step =
     Writes fault_count (with_outbox old (works_after step front later)) new (today, command) step
     × (new.gateway ≡ old.gateway) × (new.own ≡ old.own)
 
--- The gateway was asked for an order, and answered or failed.
-pub record IsAsked {G : Type 0} (asked : G → Option (List Asked)) (said : G → Option (List Saying))
-    (faults : G → ℕ) (old new : G) (order : Order) (answer : Result Told Failed) : Type 0 where
-  pub noted : Notes (asked old) (asked_of order) (asked new)
-  pub heard : Notes (said old) (said_of_ask order answer) (said new)
-  pub cause : HasCause (faults old) (faults new) answer
+-- The gateway was asked for an order, and answered or failed. One that cancels each order answers that.
+pub record IsAsked {G : Type 0} (gateways : GatewayTold G) (old new : G) (order : Order)
+    (answer : Result Told Failed) : Type 0 where
+  pub noted : Notes (gateways.asked old) order (gateways.asked new)
+  pub heard : Notes (gateways.said old) (said_of_ask order answer) (gateways.said new)
+  pub canceled : gateways.cancels old ≡ true → answer ≡ Ok told.Canceled
+  pub same : gateways.cancels new ≡ gateways.cancels old
+  pub cause : HasCause (gateways.faults old) (gateways.faults new) answer
 
 -- What a step leaves that accepts a command, if there is one.
 abbrev pub Accepts : {D G : Type 0} → (D → ℕ) → LaneValue D G → LaneValue D G → ℕ → Option Command → Step
@@ -79,27 +82,27 @@ Accepts fault_count old new today (Some command) step = Writes fault_count old n
 
 -- The lane runs; its gateway was asked for the order of a payment, which is off the outbox, and by what it
 -- answered the payment is settled. No memory is missing any more.
-pub record Asks {D G : Type 0} (fault_count : D → ℕ) (asked : G → Option (List Asked))
-    (said : G → Option (List Saying)) (faults : G → ℕ) (old new : LaneValue D G) (today : ℕ)
+pub record Asks {D G : Type 0} (fault_count : D → ℕ) (gateways : GatewayTold G) (old new : LaneValue D G)
+    (today : ℕ)
     (account key : List ℕ) (later : List Work) (step : Step) : Type 0 where
   pub running : old.log.journal.stopped ≡ false
   pub order : Order
   pub ordered : order_of (machine_of old) account key ≡ Some order
   pub answer : Result Told Failed
-  pub heard : IsAsked asked said faults old.gateway new.gateway order answer
+  pub heard : IsAsked gateways old.gateway new.gateway order answer
   pub own : new.own ≡ old.own ++ asked_of order ∷ []
   pub settled : Accepts fault_count (with_outbox old later) new today (settled_by account key answer) step
   pub ready : step ≡ steps.NoMemory → ⊥
 
 -- What the handling of an order leaves: a lane that has stopped asks nothing, and nor does one that finds no
 -- memory.
-abbrev pub Orders : {D G : Type 0} → (D → ℕ) → (G → Option (List Asked)) → (G → Option (List Saying))
-    → (G → ℕ) → LaneValue D G → LaneValue D G → ℕ → List ℕ → List ℕ → List Work → Step → Type 0
-Orders fault_count asked said faults old new today account key later (steps.Stopped count) =
+abbrev pub Orders : {D G : Type 0} → (D → ℕ) → GatewayTold G → LaneValue D G → LaneValue D G → ℕ → List ℕ
+    → List ℕ → List Work → Step → Type 0
+Orders fault_count gateways old new today account key later (steps.Stopped count) =
     (old.log.journal.stopped ≡ true) × (count ≡ length old.log.history) × (new ≡ old)
-Orders fault_count asked said faults old new today account key later steps.NoMemory = new ≡ old
-Orders fault_count asked said faults old new today account key later step =
-    Asks fault_count asked said faults old new today account key later step
+Orders fault_count gateways old new today account key later steps.NoMemory = new ≡ old
+Orders fault_count gateways old new today account key later step =
+    Asks fault_count gateways old new today account key later step
 
 -- a command was written down, or is marked as the one with which the lane stopped
 abbrev pub IsWritten : {D : Type 0} → LogValue D → LogValue D → Entry → Type 0

@@ -1,7 +1,6 @@
 -- How the outbox of a lane is handled to its end.
-use Rattle.std.specs.Prelude.{ℕ, zero, suc, ◌≡◌, ◌≤◌, List, [], ◌∷◌, Option}
-use Rattle.kb_gateway.specs.declared.order.Asked.{Asked}
-use Rattle.kb_gateway.specs.declared.told.Saying.{Saying}
+use Rattle.std.specs.Prelude.{ℕ, zero, suc, ◌≡◌, ◌≤◌, List, [], ◌∷◌}
+use Rattle.kb_gateway.specs.Told.{GatewayTold}
 use Rattle.kb_book.specs.declared.step.Step.{Step}
 use Rattle.kb_book.specs.declared.step.Step.TheVariants as steps
 use Rattle.kb_lane.specs.declared.work.Work.{Work}
@@ -11,18 +10,18 @@ use Rattle.kb_lane.specs.Draining.{due_of, Looks, Orders}
 use Rattle.kb_lane.specs.LaneWork.{lane_work}
 
 -- What the handling of an outbox's front leaves: nothing to do, a look at an account, or an order.
-abbrev pub HandlesFront : {D G : Type 0} → (D → ℕ) → (G → Option (List Asked)) → (G → Option (List Saying))
-    → (G → ℕ) → ℕ → List Work → LaneValue D G → LaneValue D G → Step → Type 0
-HandlesFront fault_count asked said faults today [] old new step = (step ≡ steps.Idle) × (new ≡ old)
-HandlesFront fault_count asked said faults today (Check account ∷ later) old new step =
+abbrev pub HandlesFront : {D G : Type 0} → (D → ℕ) → GatewayTold G → ℕ → List Work → LaneValue D G
+    → LaneValue D G → Step → Type 0
+HandlesFront fault_count gateways today [] old new step = (step ≡ steps.Idle) × (new ≡ old)
+HandlesFront fault_count gateways today (Check account ∷ later) old new step =
     Looks fault_count old new today (Check account) later (due_of (machine_of old) today account) step
-HandlesFront fault_count asked said faults today (Ask account key ∷ later) old new step =
-    Orders fault_count asked said faults old new today account key later step
+HandlesFront fault_count gateways today (Ask account key ∷ later) old new step =
+    Orders fault_count gateways old new today account key later step
 
-abbrev pub Handles : {D G : Type 0} → (D → ℕ) → (G → Option (List Asked)) → (G → Option (List Saying))
-    → (G → ℕ) → ℕ → LaneValue D G → LaneValue D G → Step → Type 0
-Handles fault_count asked said faults today old new step =
-    HandlesFront fault_count asked said faults today old.outbox old new step
+abbrev pub Handles : {D G : Type 0} → (D → ℕ) → GatewayTold G → ℕ → LaneValue D G → LaneValue D G → Step
+    → Type 0
+Handles fault_count gateways today old new step =
+    HandlesFront fault_count gateways today old.outbox old new step
 
 -- So many entries are handled, and the step after them isn't done.
 abbrev pub EndsAfter : {L : Type 0} → (L → L → Step → Type 0) → ℕ → L → L → Step → Type 0
@@ -31,7 +30,7 @@ EndsAfter Steps (suc count) old new step = (between : _) × Steps old between st
     × EndsAfter Steps count between new step
 
 -- Entries are handled up to a step that isn't done: no more than the work that was left.
-abbrev pub Drains : {D G : Type 0} → (D → ℕ) → (G → Option (List Asked)) → (G → Option (List Saying))
-    → (G → ℕ) → ℕ → LaneValue D G → LaneValue D G → Step → Type 0
-Drains fault_count asked said faults today old new step = (count : ℕ) × (count ≤ lane_work today old)
-    × EndsAfter (Handles fault_count asked said faults today) count old new step
+abbrev pub Drains : {D G : Type 0} → (D → ℕ) → GatewayTold G → ℕ → LaneValue D G → LaneValue D G → Step
+    → Type 0
+Drains fault_count gateways today old new step = (count : ℕ) × (count ≤ lane_work today old)
+    × EndsAfter (Handles fault_count gateways today) count old new step

@@ -47,6 +47,11 @@ StandsForLog log bytes =
     ⊎ ((entry : Entry) × (log.failed ≡ entry ∷ [])
     × IsWithOrWithout log.journal.lanes log.journal.lane (payloads log.history) (payload entry) bytes)
 
+-- Each image of a log's disk stands for its history.
+abbrev pub KeepsAll : {D : Type 0} → (D → List ℕ → Type 0) → LogValue D → Type 0
+KeepsAll images log = (image : List ℕ) → images log.journal.disk image
+    → StandsFor log.journal.lanes log.journal.lane (payloads log.history) image
+
 -- an append may begin: none has failed, and the record has room
 abbrev pub MayAppend : {D : Type 0} → LogValue D → ℕ → Type 0
 MayAppend log size = (log.journal.stopped ≡ false) × (IsFull log.journal size → ⊥)

@@ -14,8 +14,9 @@ use Rattle.kb_gateway.specs.declared.order.Order.{Order}
 use Rattle.kb_gateway.specs.declared.told.Told.TheVariants as told
 use Rattle.kb_gateway.specs.declared.told.Seen.{Seen}
 use Rattle.kb_gateway.specs.declared.told.Seen.TheVariants as seen
-use Rattle.kb_gateway.specs.declared.told.Saying.{Saying}
-use Rattle.kb_gateway.specs.Answers.{Notes, said_of_look_up, status_of}
+use Rattle.kb_ports.specs.Notes.{Notes}
+use Rattle.kb_gateway.specs.Answers.{said_of_look_up, status_of}
+use Rattle.kb_gateway.specs.Told.{GatewayTold}
 use Rattle.kb_codec.specs.declared.command.Command.{Command}
 use Rattle.kb_codec.specs.declared.command.Command.TheVariants as kinds
 use Rattle.kb_book.specs.Books.{BookValue}
@@ -78,17 +79,20 @@ no_more_pending : resettled (codes "a1") (codes "p1") status.Pending (Ok (seen.T
     (kinds.Settle (record { account = codes "a1"; payment = codes "p1"; status = status.Unknown }))
 no_more_pending = refl
 
--- The gateway looked an order up, and answered or failed. It was asked for nothing.
-pub record IsLookedUp {G : Type 0} (asked : G → Option (List Asked)) (said : G → Option (List Saying))
-    (faults : G → ℕ) (old new : G) (order : Order) (answer : Result Seen Failed) : Type 0 where
-  pub silent : asked new ≡ asked old
-  pub heard : Notes (said old) (said_of_look_up order answer) (said new)
-  pub cause : HasCause (faults old) (faults new) answer
+-- The gateway looked an order up, and answered or failed. It was asked for nothing. One that cancels each
+-- order has seen none.
+pub record IsLookedUp {G : Type 0} (gateways : GatewayTold G) (old new : G) (order : Order)
+    (answer : Result Seen Failed) : Type 0 where
+  pub silent : gateways.asked new ≡ gateways.asked old
+  pub heard : Notes (gateways.said old) (said_of_look_up order answer) (gateways.said new)
+  pub unseen : gateways.cancels old ≡ true → answer ≡ Ok seen.NotSeen
+  pub same : gateways.cancels new ≡ gateways.cancels old
+  pub cause : HasCause (gateways.faults old) (gateways.faults new) answer
 
 -- The lane runs; its gateway looked a payment up, and by what it answered the payment is settled, if that is
 -- news.
-pub record LooksUp {D G : Type 0} (fault_count : D → ℕ) (asked : G → Option (List Asked))
-    (said : G → Option (List Saying)) (faults : G → ℕ) (old new : LaneValue D G) (today : ℕ) (one : Asked)
+pub record LooksUp {D G : Type 0} (fault_count : D → ℕ) (gateways : GatewayTold G) (old new : LaneValue D G)
+    (today : ℕ) (one : Asked)
     (step : Step) : Type 0 where
   pub running : old.log.journal.stopped ≡ false
   pub order : Order
@@ -96,17 +100,17 @@ pub record LooksUp {D G : Type 0} (fault_count : D → ℕ) (asked : G → Optio
   pub attempt : Attempt
   pub there : attempt_asked (machine_of old) one ≡ Some attempt
   pub answer : Result Seen Failed
-  pub heard : IsLookedUp asked said faults old.gateway new.gateway order answer
+  pub heard : IsLookedUp gateways old.gateway new.gateway order answer
   pub own : new.own ≡ old.own
   pub settled : Accepts fault_count old new today (resettled one.account one.key attempt.status answer) step
 
 -- What the handling of an open payment leaves: a lane that has stopped looks nothing up.
-abbrev pub Looked : {D G : Type 0} → (D → ℕ) → (G → Option (List Asked)) → (G → Option (List Saying))
-    → (G → ℕ) → ℕ → LaneValue D G → LaneValue D G → Asked → Step → Type 0
-Looked fault_count asked said faults today old new one (steps.Stopped count) =
+abbrev pub Looked : {D G : Type 0} → (D → ℕ) → GatewayTold G → ℕ → LaneValue D G → LaneValue D G → Asked
+    → Step → Type 0
+Looked fault_count gateways today old new one (steps.Stopped count) =
     (old.log.journal.stopped ≡ true) × (count ≡ length old.log.history) × (new ≡ old)
-Looked fault_count asked said faults today old new one step =
-    LooksUp fault_count asked said faults old new today one step
+Looked fault_count gateways today old new one step =
+    LooksUp fault_count gateways old new today one step
 
 -- Some are handled one after another, up to the first step that isn't done.
 abbrev pub EachDone : {L A : Type 0} → (L → L → A → Step → Type 0) → L → L → List A → Step → Type 0
@@ -116,11 +120,11 @@ EachDone Handles old new (one ∷ later) step = ((step ≡ steps.Done → ⊥) �
 
 -- What a lane leaves that looks its open payments up: each, up to the first step that isn't done, or none
 -- if there is no memory for the list of them; and it asks for nothing.
-pub record LooksAllUp {D G : Type 0} (fault_count : D → ℕ) (asked : G → Option (List Asked))
-    (said : G → Option (List Saying)) (faults : G → ℕ) (today : ℕ) (old new : LaneValue D G) (step : Step)
+pub record LooksAllUp {D G : Type 0} (fault_count : D → ℕ) (gateways : GatewayTold G) (today : ℕ)
+    (old new : LaneValue D G) (step : Step)
     : Type 0 where
   pub busy : step ≡ steps.Idle → ⊥
-  pub looked : EachDone (Looked fault_count asked said faults today) old new (to_look_up old) step
+  pub looked : EachDone (Looked fault_count gateways today) old new (to_look_up old) step
       ⊎ ((step ≡ steps.NoMemory) × (new ≡ old))
-  pub silent : asked new.gateway ≡ asked old.gateway
+  pub silent : gateways.asked new.gateway ≡ gateways.asked old.gateway
   pub own : new.own ≡ old.own

@@ -62,14 +62,15 @@ impl<D: Disk, G: Gateway + Drop> Lane<D, G> {
         ensures failed { OnOk result (self.new.log.failed ≡ self.old.log.failed) }
         ensures running { OnOk result (self.new.log.journal.stopped ≡ false) }
         ensures may { OnOk result (MayAppend self.old.log (length (payload (today, command.now)))) }
-        ensures unwritten { IfErr result (IsUnwritten D.fault_count self.old self.new (today, command.now)
+        ensures unwritten { IfErr result
+            (IsUnwritten D.told.fault_count self.old self.new (today, command.now)
             (length (payload (today, command.now)))) }
         ensures moments { HasWritten result
-            → StandsThroughout D.honest D.moment D.left_since self.old.log self.new.log
+            → StandsThroughout D.told.honest D.told.moment D.told.left_since self.old.log self.new.log
             (today, command.now) }
         ensures gateway { self.new.gateway ≡ self.old.gateway }
         ensures own { self.new.own ≡ self.old.own }
-        ensures itself { StaysItself D.honest D.fault_count self.old self.new }
+        ensures itself { StaysItself D.told.honest D.told.fault_count self.old self.new }
     {
         let Ok(bytes) = payload_of(alloc, today, command) else {
             return Err(Unwritten::NoMemory);
@@ -112,14 +113,15 @@ impl<D: Disk, G: Gateway + Drop> Lane<D, G> {
         ensures failed { OnOk result (self.new.log.failed ≡ self.old.log.failed) }
         ensures running { OnOk result (self.new.log.journal.stopped ≡ false) }
         ensures may { OnOk result (MayAppend self.old.log (length (payload (today, command.now)))) }
-        ensures unwritten { IfErr result (IsUnwritten D.fault_count self.old self.new (today, command.now)
+        ensures unwritten { IfErr result
+            (IsUnwritten D.told.fault_count self.old self.new (today, command.now)
             (length (payload (today, command.now)))) }
         ensures moments { HasWritten result
-            → StandsThroughout D.honest D.moment D.left_since self.old.log self.new.log
+            → StandsThroughout D.told.honest D.told.moment D.told.left_since self.old.log self.new.log
             (today, command.now) }
         ensures gateway { self.new.gateway ≡ self.old.gateway }
         ensures own { self.new.own ≡ self.old.own }
-        ensures itself { StaysItself D.honest D.fault_count self.old self.new }
+        ensures itself { StaysItself D.told.honest D.told.fault_count self.old self.new }
     {
         let Opened {
             account,
@@ -171,14 +173,16 @@ impl<D: Disk, G: Gateway + Drop> Lane<D, G> {
             → Takes self.old self.new (today, command.now)) }
         ensures kept { OnOk result (is_new (judged (machine_of self.old) today command.now) ≡ false
             → self.new ≡ self.old) }
-        ensures unwritten { IfErr result (IsUnwritten D.fault_count self.old self.new (today, command.now)
+        ensures unwritten { IfErr result
+            (IsUnwritten D.told.fault_count self.old self.new (today, command.now)
             (length (payload (today, command.now)))) }
         ensures new { OnErr result (is_new (judged (machine_of self.old) today command.now) ≡ true) }
         ensures moments { is_new (judged (machine_of self.old) today command.now) ≡ true → HasWritten result
-            → StandsThroughout D.honest D.moment D.left_since self.old.log self.new.log (today, command.now) }
+            → StandsThroughout D.told.honest D.told.moment D.told.left_since self.old.log self.new.log
+            (today, command.now) }
         ensures gateway { self.new.gateway ≡ self.old.gateway }
         ensures own { self.new.own ≡ self.old.own }
-        ensures itself { StaysItself D.honest D.fault_count self.old self.new }
+        ensures itself { StaysItself D.told.honest D.told.fault_count self.old self.new }
     {
         match planned {
             Planned::Change(change) => self.take_in(alloc, today, command, change),
@@ -199,7 +203,7 @@ impl<D: Disk, G: Gateway + Drop> Lane<D, G> {
         ensures untaken { is_taken (judged (machine_of self.old) today command.now) result ≡ false
             → (result ≡ replies.DiskFault → ⊥) → self.new ≡ self.old }
         ensures fault { result ≡ replies.DiskFault
-            → IsMarked D.fault_count self.old self.new (today, command.now) }
+            → IsMarked D.told.fault_count self.old self.new (today, command.now) }
         ensures stopped { (count : ℕ) → result ≡ replies.Stopped count
             → (self.old.log.journal.stopped ≡ true) × (count ≡ length self.old.log.history) }
         ensures full { (commands size : ℕ) → result ≡ replies.Full commands size
@@ -208,10 +212,11 @@ impl<D: Disk, G: Gateway + Drop> Lane<D, G> {
             × (commands ≡ length self.old.log.history) × (size ≡ self.old.log.journal.gate + 1) }
         ensures moments { is_new (judged (machine_of self.old) today command.now) ≡ true
             → (result ≡ replies.NoMemory → ⊥)
-            → StandsThroughout D.honest D.moment D.left_since self.old.log self.new.log (today, command.now) }
+            → StandsThroughout D.told.honest D.told.moment D.told.left_since self.old.log self.new.log
+            (today, command.now) }
         ensures gateway { self.new.gateway ≡ self.old.gateway }
         ensures own { self.new.own ≡ self.old.own }
-        ensures itself { StaysItself D.honest D.fault_count self.old self.new }
+        ensures itself { StaysItself D.told.honest D.told.fault_count self.old self.new }
     {
         match self.machine.prepare(alloc, today, command) {
             Ok(planned) => match self.perform_planned(alloc, today, command, planned) {
@@ -234,7 +239,7 @@ impl<D: Disk, G: Gateway + Drop> Lane<D, G> {
         ensures untaken { is_taken (judged (machine_of self.old) today command.now) result ≡ false
             → (result ≡ replies.DiskFault → ⊥) → self.new ≡ self.old }
         ensures fault { result ≡ replies.DiskFault
-            → IsMarked D.fault_count self.old self.new (today, command.now) }
+            → IsMarked D.told.fault_count self.old self.new (today, command.now) }
         ensures stopped { (count : ℕ) → result ≡ replies.Stopped count
             → (self.old.log.journal.stopped ≡ true) × (count ≡ length self.old.log.history) }
         ensures full { (commands size : ℕ) → result ≡ replies.Full commands size
@@ -243,10 +248,11 @@ impl<D: Disk, G: Gateway + Drop> Lane<D, G> {
             × (commands ≡ length self.old.log.history) × (size ≡ self.old.log.journal.gate + 1) }
         ensures moments { is_new (judged (machine_of self.old) today command.now) ≡ true
             → (result ≡ replies.NoMemory → ⊥)
-            → StandsThroughout D.honest D.moment D.left_since self.old.log self.new.log (today, command.now) }
+            → StandsThroughout D.told.honest D.told.moment D.told.left_since self.old.log self.new.log
+            (today, command.now) }
         ensures gateway { self.new.gateway ≡ self.old.gateway }
         ensures own { self.new.own ≡ self.old.own }
-        ensures itself { StaysItself D.honest D.fault_count self.old self.new }
+        ensures itself { StaysItself D.told.honest D.told.fault_count self.old self.new }
     {
         self.accept(alloc, today, command)
     }

@@ -25,10 +25,10 @@ use std::alloc::Global;
 /// `memory` is 1.
 pub fn bill<D: Disk, G: Gateway + Drop>(lane: &mut Lane<D, G>, alloc: Global, day: Day) -> Tally
     ensures billed { ((answers : List Answer) × (result ≡ tally_of answers)
-        × BillsLane D.fault_count G.asked G.said G.faults day lane.old lane.new answers)
+        × BillsLane D.told.fault_count G.told day lane.old lane.new answers)
         ⊎ ((result ≡ of_step steps.NoMemory) × (lane.new ≡ lane.old)) }
-    ensures well { GoesWell D.honest D.moment D.left_since lane.old.log lane.new.log }
-    ensures itself { StaysItself D.honest D.fault_count lane.old lane.new }
+    ensures well { GoesWell D.told.honest D.told.moment D.told.left_since lane.old.log lane.new.log }
+    ensures itself { StaysItself D.told.honest D.told.fault_count lane.old lane.new }
 {
     let Ok(accounts) = lane.names(alloc) else {
         return Tally::of_step(Step::NoMemory);
@@ -50,9 +50,9 @@ fn bill_each<D: Disk, G: Gateway + Drop>(
     requires few { length accounts.now < 2 ^ 63 }
     requires key { key ≡ bill_key day }
     ensures billed { (answers : List Answer) × (result ≡ tally_of answers)
-        × BillsEach D.fault_count G.asked G.said G.faults day accounts.now lane.old lane.new answers }
-    ensures well { GoesWell D.honest D.moment D.left_since lane.old.log lane.new.log }
-    ensures itself { StaysItself D.honest D.fault_count lane.old lane.new }
+        × BillsEach D.told.fault_count G.told day accounts.now lane.old lane.new answers }
+    ensures well { GoesWell D.told.honest D.told.moment D.told.left_since lane.old.log lane.new.log }
+    ensures itself { StaysItself D.told.honest D.told.fault_count lane.old lane.new }
 {
     let mut tally = Tally::none();
     for account in accounts {
@@ -73,9 +73,9 @@ fn bill_account<D: Disk, G: Gateway + Drop>(
     key: Name,
 ) -> (LaneReply, Step)
     requires key { key ≡ bill_key day }
-    ensures billed { BillsAccount D.fault_count G.asked G.said G.faults day account lane.old lane.new result }
-    ensures well { GoesWell D.honest D.moment D.left_since lane.old.log lane.new.log }
-    ensures itself { StaysItself D.honest D.fault_count lane.old lane.new }
+    ensures billed { BillsAccount D.told.fault_count G.told day account lane.old lane.new result }
+    ensures well { GoesWell D.told.honest D.told.moment D.told.left_since lane.old.log lane.new.log }
+    ensures itself { StaysItself D.told.honest D.told.fault_count lane.old lane.new }
 {
     let reply = give_bill(lane, alloc, day, account, key);
     let step = drain(lane, alloc, day);
@@ -91,9 +91,9 @@ fn give_bill<D: Disk, G: Gateway + Drop>(
     key: Name,
 ) -> LaneReply
     requires key { key ≡ bill_key day }
-    ensures performed { Performs D.fault_count lane.old lane.new day (bill_of account day) result }
-    ensures well { GoesWell D.honest D.moment D.left_since lane.old.log lane.new.log }
-    ensures itself { StaysItself D.honest D.fault_count lane.old lane.new }
+    ensures performed { Performs D.told.fault_count lane.old lane.new day (bill_of account day) result }
+    ensures well { GoesWell D.told.honest D.told.moment D.told.left_since lane.old.log lane.new.log }
+    ensures itself { StaysItself D.told.honest D.told.fault_count lane.old lane.new }
 {
     let command = Command::Act {
         account,

@@ -40,14 +40,14 @@ impl<D: Disk, G: Gateway + Drop> Lane<D, G> {
         ensures rests { self.old.outbox ≡ [] → self.new ≡ self.old }
         ensures looks { (account : List ℕ) (later : List AnyWork)
             → self.old.outbox ≡ works.Check account ∷ later
-            → Looks D.fault_count self.old self.new today (works.Check account) later
+            → Looks D.told.fault_count self.old self.new today (works.Check account) later
             (due_of (machine_of self.old) today account) result }
         ensures orders { (account key : List ℕ) (later : List AnyWork)
             → self.old.outbox ≡ works.Ask account key ∷ later
-            → Orders D.fault_count G.asked G.said G.faults self.old self.new today account key later result }
+            → Orders D.told.fault_count G.told self.old self.new today account key later result }
         ensures moments { (entry : Entry) → IsWritten self.old.log self.new.log entry
-            → StandsThroughout D.honest D.moment D.left_since self.old.log self.new.log entry }
-        ensures itself { StaysItself D.honest D.fault_count self.old self.new }
+            → StandsThroughout D.told.honest D.told.moment D.told.left_since self.old.log self.new.log entry }
+        ensures itself { StaysItself D.told.honest D.told.fault_count self.old self.new }
         ensures lowers { result ≡ steps.Done → lane_work today self.new < lane_work today self.old }
     {
         self.is_within(today);
@@ -79,14 +79,14 @@ impl<D: Disk, G: Gateway + Drop> Lane<D, G> {
         ensures busy { result ≡ steps.Idle → ⊥ }
         ensures looks { (account : List ℕ) (later : List AnyWork)
             → self.old.outbox ≡ works.Check account ∷ later
-            → Looks D.fault_count self.old self.new today (works.Check account) later
+            → Looks D.told.fault_count self.old self.new today (works.Check account) later
             (due_of (machine_of self.old) today account) result }
         ensures orders { (account key : List ℕ) (later : List AnyWork)
             → self.old.outbox ≡ works.Ask account key ∷ later
-            → Orders D.fault_count G.asked G.said G.faults self.old self.new today account key later result }
+            → Orders D.told.fault_count G.told self.old self.new today account key later result }
         ensures moments { (entry : Entry) → IsWritten self.old.log self.new.log entry
-            → StandsThroughout D.honest D.moment D.left_since self.old.log self.new.log entry }
-        ensures itself { StaysItself D.honest D.fault_count self.old self.new }
+            → StandsThroughout D.told.honest D.told.moment D.told.left_since self.old.log self.new.log entry }
+        ensures itself { StaysItself D.told.honest D.told.fault_count self.old self.new }
     {
         match work {
             Work::Check(account) => self.look(alloc, today, account),
@@ -99,11 +99,11 @@ impl<D: Disk, G: Gateway + Drop> Lane<D, G> {
         requires first { works.Check account ∷ drop 1 self.old.outbox ≡ self.old.outbox }
         ensures busy { result ≡ steps.Idle → ⊥ }
         ensures looks { (later : List AnyWork) → self.old.outbox ≡ works.Check account ∷ later
-            → Looks D.fault_count self.old self.new today (works.Check account) later
+            → Looks D.told.fault_count self.old self.new today (works.Check account) later
             (due_of (machine_of self.old) today account) result }
         ensures moments { (entry : Entry) → IsWritten self.old.log self.new.log entry
-            → StandsThroughout D.honest D.moment D.left_since self.old.log self.new.log entry }
-        ensures itself { StaysItself D.honest D.fault_count self.old self.new }
+            → StandsThroughout D.told.honest D.told.moment D.told.left_since self.old.log self.new.log entry }
+        ensures itself { StaysItself D.told.honest D.told.fault_count self.old self.new }
     {
         let Some(command) = self.due(today, &account) else {
             self.outbox.pop_front();
@@ -123,12 +123,12 @@ impl<D: Disk, G: Gateway + Drop> Lane<D, G> {
     pub(crate) fn accept_own(&mut self, alloc: Global, today: Day, command: &Command) -> Step
         requires new { is_new (judged (machine_of self.old) today command.now) ≡ true }
         requires free { SettlesNone command.now self.old.outbox }
-        ensures writes { Writes D.fault_count self.old self.new (today, command.now) result }
+        ensures writes { Writes D.told.fault_count self.old self.new (today, command.now) result }
         ensures gateway { self.new.gateway ≡ self.old.gateway }
         ensures own { self.new.own ≡ self.old.own }
         ensures moments { (entry : Entry) → IsWritten self.old.log self.new.log entry
-            → StandsThroughout D.honest D.moment D.left_since self.old.log self.new.log entry }
-        ensures itself { StaysItself D.honest D.fault_count self.old self.new }
+            → StandsThroughout D.told.honest D.told.moment D.told.left_since self.old.log self.new.log entry }
+        ensures itself { StaysItself D.told.honest D.told.fault_count self.old self.new }
     {
         match self.accept(alloc, today, command) {
             LaneReply::Accepted(_) | LaneReply::Version(_) | LaneReply::States(_) => Step::Done,
@@ -158,10 +158,10 @@ impl<D: Disk, G: Gateway + Drop> Lane<D, G> {
         requires first { works.Ask account key ∷ drop 1 self.old.outbox ≡ self.old.outbox }
         ensures busy { result ≡ steps.Idle → ⊥ }
         ensures orders { (later : List AnyWork) → self.old.outbox ≡ works.Ask account key ∷ later
-            → Orders D.fault_count G.asked G.said G.faults self.old self.new today account key later result }
+            → Orders D.told.fault_count G.told self.old self.new today account key later result }
         ensures moments { (entry : Entry) → IsWritten self.old.log self.new.log entry
-            → StandsThroughout D.honest D.moment D.left_since self.old.log self.new.log entry }
-        ensures itself { StaysItself D.honest D.fault_count self.old self.new }
+            → StandsThroughout D.told.honest D.told.moment D.told.left_since self.old.log self.new.log entry }
+        ensures itself { StaysItself D.told.honest D.told.fault_count self.old self.new }
     {
         if self.log.is_stopped() {
             return Step::Stopped(self.log.count());
@@ -190,10 +190,10 @@ impl<D: Disk, G: Gateway + Drop> Lane<D, G> {
         requires ready { AreReady (machine_of self.old) today account key ready }
         ensures busy { IsBusy result }
         ensures asked { (later : List AnyWork) → self.old.outbox ≡ works.Ask account key ∷ later
-            → Asks D.fault_count G.asked G.said G.faults self.old self.new today account key later result }
+            → Asks D.told.fault_count G.told self.old self.new today account key later result }
         ensures moments { (entry : Entry) → IsWritten self.old.log self.new.log entry
-            → StandsThroughout D.honest D.moment D.left_since self.old.log self.new.log entry }
-        ensures itself { StaysItself D.honest D.fault_count self.old self.new }
+            → StandsThroughout D.told.honest D.told.moment D.told.left_since self.old.log self.new.log entry }
+        ensures itself { StaysItself D.told.honest D.told.fault_count self.old self.new }
     {
         let answer = self.gateway.ask(order);
         self.own.note(&account, &key);

@@ -17,9 +17,9 @@ use std::alloc::Global;
 /// step: `Idle` if all were handled. It comes to an end, since each step takes work off; what was done before
 /// stays done.
 pub fn drain<D: Disk, G: Gateway + Drop>(lane: &mut Lane<D, G>, alloc: Global, today: Day) -> Step
-    ensures drained { Drains D.fault_count G.asked G.said G.faults today lane.old lane.new result }
-    ensures well { GoesWell D.honest D.moment D.left_since lane.old.log lane.new.log }
-    ensures itself { StaysItself D.honest D.fault_count lane.old lane.new }
+    ensures drained { Drains D.told.fault_count G.told today lane.old lane.new result }
+    ensures well { GoesWell D.told.honest D.told.moment D.told.left_since lane.old.log lane.new.log }
+    ensures itself { StaysItself D.told.honest D.told.fault_count lane.old lane.new }
 {
     'entries: loop {
         match handle(lane, alloc, today) {
@@ -31,10 +31,10 @@ pub fn drain<D: Disk, G: Gateway + Drop>(lane: &mut Lane<D, G>, alloc: Global, t
 
 /// Handles one entry.
 fn handle<D: Disk, G: Gateway + Drop>(lane: &mut Lane<D, G>, alloc: Global, today: Day) -> Step
-    ensures handled { Handles D.fault_count G.asked G.said G.faults today lane.old lane.new result }
+    ensures handled { Handles D.told.fault_count G.told today lane.old lane.new result }
     ensures lowers { result ≡ steps.Done → lane_work today lane.new < lane_work today lane.old }
-    ensures well { GoesWell D.honest D.moment D.left_since lane.old.log lane.new.log }
-    ensures itself { StaysItself D.honest D.fault_count lane.old lane.new }
+    ensures well { GoesWell D.told.honest D.told.moment D.told.left_since lane.old.log lane.new.log }
+    ensures itself { StaysItself D.told.honest D.told.fault_count lane.old lane.new }
 {
     lane.handle_next(alloc, today)
 }

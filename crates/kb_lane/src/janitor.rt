@@ -35,12 +35,12 @@ impl<D: Disk, G: Gateway + Drop> Lane<D, G> {
     /// settled before stays so. A lane that has stopped looks nothing up.
     pub fn janitor(&mut self, alloc: Global, today: Day) -> Step
         ensures busy { result ≡ steps.Idle → ⊥ }
-        ensures looked { EachDone (Looked D.fault_count G.asked G.said G.faults today) self.old self.new
+        ensures looked { EachDone (Looked D.told.fault_count G.told today) self.old self.new
             (to_look_up self.old) result ⊎ ((result ≡ steps.NoMemory) × (self.new ≡ self.old)) }
-        ensures silent { G.asked self.new.gateway ≡ G.asked self.old.gateway }
+        ensures silent { G.told.asked self.new.gateway ≡ G.told.asked self.old.gateway }
         ensures own { self.new.own ≡ self.old.own }
-        ensures well { GoesWell D.honest D.moment D.left_since self.old.log self.new.log }
-        ensures itself { StaysItself D.honest D.fault_count self.old self.new }
+        ensures well { GoesWell D.told.honest D.told.moment D.told.left_since self.old.log self.new.log }
+        ensures itself { StaysItself D.told.honest D.told.fault_count self.old self.new }
     {
         match self.to_look_up(alloc) {
             Ok(payments) => self.look_up_each(alloc, today, &payments),
@@ -52,12 +52,12 @@ impl<D: Disk, G: Gateway + Drop> Lane<D, G> {
     fn look_up_each(&mut self, alloc: Global, today: Day, payments: &[Asked]) -> Step
         requires them { AreToLookUp self.old payments.now }
         ensures busy { result ≡ steps.Idle → ⊥ }
-        ensures looked { EachDone (Looked D.fault_count G.asked G.said G.faults today) self.old self.new
+        ensures looked { EachDone (Looked D.told.fault_count G.told today) self.old self.new
             payments.now result }
-        ensures silent { G.asked self.new.gateway ≡ G.asked self.old.gateway }
+        ensures silent { G.told.asked self.new.gateway ≡ G.told.asked self.old.gateway }
         ensures own { self.new.own ≡ self.old.own }
-        ensures well { GoesWell D.honest D.moment D.left_since self.old.log self.new.log }
-        ensures itself { StaysItself D.honest D.fault_count self.old self.new }
+        ensures well { GoesWell D.told.honest D.told.moment D.told.left_since self.old.log self.new.log }
+        ensures itself { StaysItself D.told.honest D.told.fault_count self.old self.new }
     {
         for payment in payments {
             match self.look_up(alloc, today, *payment) {
@@ -73,18 +73,18 @@ impl<D: Disk, G: Gateway + Drop> Lane<D, G> {
         requires opened { IsOpen (attempt_asked (machine_of self.old) payment) }
         requires beside { IsBeside (asks_in self.old.outbox) payment }
         ensures busy { result ≡ steps.Idle → ⊥ }
-        ensures looked { Looked D.fault_count G.asked G.said G.faults today self.old self.new payment result }
+        ensures looked { Looked D.told.fault_count G.told today self.old self.new payment result }
         ensures others { result ≡ steps.Done → (one : AnyAsked) → (payment ≡ one → ⊥)
             → attempt_asked (machine_of self.new) one ≡ attempt_asked (machine_of self.old) one }
         ensures asks { result ≡ steps.Done → asks_in self.new.outbox ≡ asks_in self.old.outbox }
-        ensures silent { G.asked self.new.gateway ≡ G.asked self.old.gateway }
+        ensures silent { G.told.asked self.new.gateway ≡ G.told.asked self.old.gateway }
         ensures own { self.new.own ≡ self.old.own }
         ensures past { result ≡ steps.Done
-            → StandsPast D.honest D.moment D.left_since self.old.log self.new.log }
-        ensures within { StandsWithin D.honest D.moment D.left_since self.old.log self.new.log }
+            → StandsPast D.told.honest D.told.moment D.told.left_since self.old.log self.new.log }
+        ensures within { StandsWithin D.told.honest D.told.moment D.told.left_since self.old.log self.new.log }
         ensures further { GoesOn self.old.log.history self.new.log.history }
         ensures runs { result ≡ steps.Done → self.new.log.journal.stopped ≡ false }
-        ensures itself { StaysItself D.honest D.fault_count self.old self.new }
+        ensures itself { StaysItself D.told.honest D.told.fault_count self.old self.new }
     {
         if self.log.is_stopped() {
             return Step::Stopped(self.log.count());
@@ -110,7 +110,7 @@ impl<D: Disk, G: Gateway + Drop> Lane<D, G> {
           payment = payment.key;
           status = status;
         })) self.old.outbox }
-        ensures writes { Writes D.fault_count self.old self.new (
+        ensures writes { Writes D.told.fault_count self.old self.new (
           today,
           kinds.Settle (record {
             account = payment.account;
@@ -121,11 +121,11 @@ impl<D: Disk, G: Gateway + Drop> Lane<D, G> {
         ensures gateway { self.new.gateway ≡ self.old.gateway }
         ensures own { self.new.own ≡ self.old.own }
         ensures past { result ≡ steps.Done
-            → StandsPast D.honest D.moment D.left_since self.old.log self.new.log }
-        ensures within { StandsWithin D.honest D.moment D.left_since self.old.log self.new.log }
+            → StandsPast D.told.honest D.told.moment D.told.left_since self.old.log self.new.log }
+        ensures within { StandsWithin D.told.honest D.told.moment D.told.left_since self.old.log self.new.log }
         ensures further { GoesOn self.old.log.history self.new.log.history }
         ensures runs { result ≡ steps.Done → self.new.log.journal.stopped ≡ false }
-        ensures itself { StaysItself D.honest D.fault_count self.old self.new }
+        ensures itself { StaysItself D.told.honest D.told.fault_count self.old self.new }
     {
         let command = Command::Settle(Settle {
             account: payment.account,

@@ -4,7 +4,8 @@ ghost use Rattle.std.specs.Option.{option_copied};
 ghost use Rattle.kb_base.specs.Faults.{Rose};
 ghost use Rattle.kb_journal.specs.Keeping.{Holds, RefusesToCreate};
 ghost use Rattle.kb_codec.specs.Entries.{payloads};
-ghost use Rattle.kb_lane.specs.Logs.{StandsForLog};
+ghost use Rattle.kb_gateway.specs.Told.{payments_asked};
+ghost use Rattle.kb_lane.specs.Logs.{KeepsAll, StandsForLog};
 ghost use Rattle.kb_machine.specs.Machines.{book_of};
 ghost use Rattle.kb_lane.specs.Asking.{WasAskedOnce};
 ghost use Rattle.kb_lane.specs.Lanes.{machine_of, opened_of};
@@ -48,6 +49,7 @@ impl<D: Disk + Drop, G: Gateway + Drop> Drop for Lane<D, G> {
 impl<D: Disk, G: Gateway + Drop> Model for Lane<D, G> {
     ghost use Rattle.std.specs.Prelude.{map};
     ghost use Rattle.std.specs.VecDeque.{deque_items};
+    ghost use Rattle.kb_gateway.specs.Told.{payments_asked};
     ghost use Rattle.kb_lane.specs.Asking.{asked_for};
     ghost use Rattle.kb_lane.specs.Lanes.{LaneValue, IsLane};
 
@@ -60,7 +62,7 @@ impl<D: Disk, G: Gateway + Drop> Model for Lane<D, G> {
       own = map asked_for lane.own;
     } };
 
-    ghost invariant = { λ lane. IsLane {D = D} {G = G} G.asked lane.machine (record {
+    ghost invariant = { λ lane. IsLane {D = D} {G = G} (payments_asked G.told) lane.machine (record {
       log = lane.log;
       outbox = deque_items lane.outbox;
       gateway = lane.gateway;
@@ -87,14 +89,16 @@ impl<D: Disk, G: Gateway + Drop> Lane<D, G> {
         ensures running { IfOk result (λ made. made.log.journal.stopped ≡ false) }
         ensures place { IfOk result (λ made. (made.log.journal.lanes ≡ lanes)
             × (made.log.journal.lane ≡ lane)) }
-        ensures honesty { IfOk result (λ made. D.honest made.log.journal.disk ≡ D.honest disk) }
-        ensures calm { IfOk result (λ made. D.fault_count made.log.journal.disk ≡ D.fault_count disk) }
-        ensures faults { IfOk result (λ made. made.log.faults ≡ D.fault_count disk) }
+        ensures honesty { IfOk result (λ made. D.told.honest made.log.journal.disk ≡ D.told.honest disk) }
+        ensures calm { IfOk result
+            (λ made. D.told.fault_count made.log.journal.disk ≡ D.told.fault_count disk) }
+        ensures faults { IfOk result (λ made. made.log.faults ≡ D.told.fault_count disk) }
         ensures outbox { IfOk result (λ made. made.outbox ≡ []) }
         ensures own { IfOk result (λ made. made.own ≡ []) }
         ensures gateway { IfOk result (λ made. made.gateway ≡ gateway) }
         ensures refused { IfErr result (λ refused.
-            RefusesToCreate D.honest D.seen D.images D.fault_count disk refused.0 refused.1) }
+            RefusesToCreate D.told.honest D.told.seen D.told.images D.told.fault_count disk refused.0
+            refused.1) }
         ensures same_gateway { IfErr result (λ refused. refused.2 ≡ gateway) }
     {
         match Log::create(disk, lane, lanes) {
@@ -109,7 +113,8 @@ impl<D: Disk, G: Gateway + Drop> Lane<D, G> {
         }
     }
 
-    /// The disk and the gateway, as they are. The bytes of an honest disk stand for the history; or, if an
+    /// The disk and the gateway, as they are. The bytes of an honest disk stand for the history, and a crash
+    /// leaves no other ones; or, if an
     /// append has failed, for that or for it and the command whose append failed, and the disk's count of
     /// failed calls has risen since the lane was opened. If the gateway tells what it was asked, it was
     /// asked for no payment twice, provided that before the lane was opened it was asked once each, for
@@ -117,11 +122,13 @@ impl<D: Disk, G: Gateway + Drop> Lane<D, G> {
     pub fn into_parts(self) -> (D, G)
         ensures disk { result.0 ≡ self.log.journal.disk }
         ensures gateway { result.1 ≡ self.gateway }
-        ensures stands { IsTrue (D.honest self.log.journal.disk)
-            → StandsForLog self.log (D.seen self.log.journal.disk) }
+        ensures stands { IsTrue (D.told.honest self.log.journal.disk)
+            → StandsForLog self.log (D.told.seen self.log.journal.disk) }
+        ensures durable { IsTrue (D.told.honest self.log.journal.disk) → self.log.journal.stopped ≡ false
+            → KeepsAll D.told.images self.log }
         ensures caused { self.log.journal.stopped ≡ true
-            → Rose self.log.faults (D.fault_count self.log.journal.disk) }
-        ensures once { WasAskedOnce (opened_of self) (G.asked self.gateway) self.own }
+            → Rose self.log.faults (D.told.fault_count self.log.journal.disk) }
+        ensures once { WasAskedOnce (opened_of self) (payments_asked G.told self.gateway) self.own }
     {
         let Lane {
             machine: _machine,
@@ -151,8 +158,9 @@ impl<D: Disk, G: Gateway + Drop> Lane<D, G> {
     /// stands for them.
     pub fn count(&self) -> u64
         ensures count { result ≡ length self.now.log.history }
-        ensures held { self.now.log.journal.stopped ≡ false → IsTrue (D.honest self.now.log.journal.disk)
-            → Holds D.honest D.seen D.images self.now.log.journal (payloads self.now.log.history) }
+        ensures held { self.now.log.journal.stopped ≡ false → IsTrue (D.told.honest self.now.log.journal.disk)
+            → Holds D.told.honest D.told.seen D.told.images self.now.log.journal
+            (payloads self.now.log.history) }
     {
         self.log.count()
     }

@@ -28,9 +28,9 @@ impl<D: Disk, G: Gateway + Drop> Lane<D, G> {
         gateway: G,
         lane: u16,
     ) -> Result<Lane<D, G>, (LoadFault, D, G)>
-        ensures history { IsTrue (D.honest disk)
+        ensures history { IsTrue (D.told.honest disk)
             → IfOk result (λ loaded. StandsFor loaded.log.journal.lanes lane
-            (payloads loaded.log.history) (D.seen disk)) }
+            (payloads loaded.log.history) (D.told.seen disk)) }
         ensures fresh { IfOk result (λ loaded. AreNewFrom no_machine loaded.log.history) }
         ensures opened { IfOk result (λ loaded. loaded.log.opened ≡ length loaded.log.history) }
         ensures running { IfOk result (λ loaded. loaded.log.journal.stopped ≡ false) }
@@ -38,17 +38,19 @@ impl<D: Disk, G: Gateway + Drop> Lane<D, G> {
         ensures some_lanes { IfOk result (λ loaded. 1 ≤ loaded.log.journal.lanes) }
         ensures few_lanes { IfOk result (λ loaded. loaded.log.journal.lanes ≤ 64) }
         ensures calm { IfOk result (λ loaded.
-            D.fault_count loaded.log.journal.disk ≡ D.fault_count disk) }
-        ensures faults { IfOk result (λ loaded. loaded.log.faults ≡ D.fault_count loaded.log.journal.disk) }
+            D.told.fault_count loaded.log.journal.disk ≡ D.told.fault_count disk) }
+        ensures faults { IfOk result
+            (λ loaded. loaded.log.faults ≡ D.told.fault_count loaded.log.journal.disk) }
         ensures outbox { IfOk result (λ loaded. loaded.outbox ≡ []) }
         ensures own { IfOk result (λ loaded. loaded.own ≡ []) }
         ensures gateway { IfOk result (λ loaded. loaded.gateway ≡ gateway) }
-        ensures unwritten { IfOk result (λ loaded. IsUnwritten D.honest D.images D.moment D.left_since
-            D.fault_count disk loaded.log.journal.disk) }
+        ensures unwritten { IfOk result
+            (λ loaded. IsUnwritten D.told.honest D.told.images D.told.moment D.told.left_since
+            D.told.fault_count disk loaded.log.journal.disk) }
         ensures refused { IfErr result (λ refused.
-            RefusesLane D.honest D.seen D.fault_count lane disk refused.0 refused.1) }
-        ensures unwritten_too { IfErr result (λ refused. IsUnwritten D.honest D.images D.moment D.left_since
-            D.fault_count disk refused.1) }
+            RefusesLane D.told.honest D.told.seen D.told.fault_count lane disk refused.0 refused.1) }
+        ensures unwritten_too { IfErr result (λ refused. IsUnwritten D.told.honest D.told.images D.told.moment D.told.left_since
+            D.told.fault_count disk refused.1) }
         ensures same_gateway { IfErr result (λ refused. refused.2 ≡ gateway) }
     {
         match Journal::load(alloc, disk, lane) {
@@ -71,8 +73,8 @@ impl<D: Disk, G: Gateway + Drop> Lane<D, G> {
         requires running { journal.stopped ≡ false }
         requires counted { journal.count ≡ length past }
         requires count { count ≡ length past }
-        requires held { IsTrue (D.honest journal.disk)
-            → Holds D.honest D.seen D.images journal (payloads past) }
+        requires held { IsTrue (D.told.honest journal.disk)
+            → Holds D.told.honest D.told.seen D.told.images journal (payloads past) }
         ensures fresh { AreNewFrom no_machine past }
         ensures made { result ≡ record {
           log = record {
@@ -80,7 +82,7 @@ impl<D: Disk, G: Gateway + Drop> Lane<D, G> {
             history = past;
             failed = [];
             opened = length past;
-            faults = D.fault_count journal.disk;
+            faults = D.told.fault_count journal.disk;
           };
           outbox = [];
           gateway = gateway;

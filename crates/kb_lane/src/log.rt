@@ -6,7 +6,7 @@ ghost use Rattle.kb_disk.specs.Moments.{AtEachMoment};
 ghost use Rattle.kb_journal.specs.Format.{IsSized, IsWithOrWithout};
 ghost use Rattle.kb_journal.specs.Keeping.{Holds, RefusesToCreate};
 ghost use Rattle.kb_codec.specs.Entries.{payload, payloads};
-ghost use Rattle.kb_lane.specs.Logs.{Appends, StandsForLog};
+ghost use Rattle.kb_lane.specs.Logs.{Appends, KeepsAll, StandsForLog};
 
 use kb_base::History;
 use kb_codec::Command;
@@ -41,7 +41,7 @@ impl<D: Disk> Model for Log<D> {
     } };
 
     ghost invariant = { λ log. (log.count ≡ length log.history)
-        × IsLog D.honest D.seen D.images D.fault_count (record {
+        × IsLog D.told.honest D.told.seen D.told.images D.told.fault_count (record {
           journal = log.journal;
           history = log.history;
           failed = log.failed;
@@ -61,14 +61,15 @@ impl<D: Disk> Log<D> {
           history = [];
           failed = [];
           opened = 0;
-          faults = D.fault_count disk;
+          faults = D.told.fault_count disk;
         }) }
         ensures running { IfOk result (λ log. log.journal.stopped ≡ false) }
         ensures place { IfOk result (λ log. (log.journal.lanes ≡ lanes) × (log.journal.lane ≡ lane)) }
         ensures refused { IfErr result (λ refused.
-            RefusesToCreate D.honest D.seen D.images D.fault_count disk refused.0 refused.1) }
-        ensures honesty { IfOk result (λ log. D.honest log.journal.disk ≡ D.honest disk) }
-        ensures calm { IfOk result (λ log. D.fault_count log.journal.disk ≡ D.fault_count disk) }
+            RefusesToCreate D.told.honest D.told.seen D.told.images D.told.fault_count disk refused.0
+            refused.1) }
+        ensures honesty { IfOk result (λ log. D.told.honest log.journal.disk ≡ D.told.honest disk) }
+        ensures calm { IfOk result (λ log. D.told.fault_count log.journal.disk ≡ D.told.fault_count disk) }
     {
         match Journal::create(disk, lane, lanes) {
             Ok(journal) => Ok(Log::opened(journal, History::new(), 0)),
@@ -81,14 +82,15 @@ impl<D: Disk> Log<D> {
         requires running { journal.stopped ≡ false }
         requires counted { journal.count ≡ length history }
         requires count { count ≡ length history }
-        requires held { IsTrue (D.honest journal.disk) → Holds D.honest D.seen D.images journal
+        requires held { IsTrue (D.told.honest journal.disk) → Holds D.told.honest D.told.seen D.told.images
+            journal
             (payloads history) }
         ensures { result ≡ record {
           journal = journal;
           history = history;
           failed = [];
           opened = length history;
-          faults = D.fault_count journal.disk;
+          faults = D.told.fault_count journal.disk;
         } }
     {
         let faults = journal.faults();
@@ -106,8 +108,8 @@ impl<D: Disk> Log<D> {
     /// stands for them.
     pub fn count(&self) -> u64
         ensures count { result ≡ length self.now.history }
-        ensures held { self.now.journal.stopped ≡ false → IsTrue (D.honest self.now.journal.disk)
-            → Holds D.honest D.seen D.images self.now.journal (payloads self.now.history) }
+        ensures held { self.now.journal.stopped ≡ false → IsTrue (D.told.honest self.now.journal.disk)
+            → Holds D.told.honest D.told.seen D.told.images self.now.journal (payloads self.now.history) }
     {
         self.count
     }
@@ -123,8 +125,12 @@ impl<D: Disk> Log<D> {
     /// opened.
     pub fn into_disk(self) -> D
         ensures disk { result ≡ self.journal.disk }
-        ensures stands { IsTrue (D.honest self.journal.disk) → StandsForLog self (D.seen self.journal.disk) }
-        ensures caused { self.journal.stopped ≡ true → Rose self.faults (D.fault_count self.journal.disk) }
+        ensures stands { IsTrue (D.told.honest self.journal.disk) → StandsForLog self
+            (D.told.seen self.journal.disk) }
+        ensures durable { IsTrue (D.told.honest self.journal.disk) → self.journal.stopped ≡ false
+            → KeepsAll D.told.images self }
+        ensures caused { self.journal.stopped ≡ true → Rose self.faults
+            (D.told.fault_count self.journal.disk) }
     {
         self.journal.into_disk()
     }
@@ -141,18 +147,18 @@ impl<D: Disk> Log<D> {
     pub fn append(&mut self, today: Day, command: &Command, bytes: &[u8]) -> Result<(), AppendFault>
         requires payload { bytes.now ≡ payload (today, command.now) }
         requires sized { IsSized bytes.now }
-        ensures outcome { Appends D.fault_count self.old self.new (today, command.now)
+        ensures outcome { Appends D.told.fault_count self.old self.new (today, command.now)
             (length bytes.now) result }
         ensures few { OnOk result (length self.old.history < 2 ^ 32) }
-        ensures moments { self.old.journal.stopped ≡ false → IsTrue (D.honest self.old.journal.disk)
-            → AtEachMoment D.moment D.left_since self.old.journal.disk self.new.journal.disk
+        ensures moments { self.old.journal.stopped ≡ false → IsTrue (D.told.honest self.old.journal.disk)
+            → AtEachMoment D.told.moment D.told.left_since self.old.journal.disk self.new.journal.disk
             (IsWithOrWithout self.old.journal.lanes self.old.journal.lane
             (payloads self.old.history) bytes.now) }
         ensures same { (self.new.opened ≡ self.old.opened) × (self.new.faults ≡ self.old.faults) }
         ensures place { (self.new.journal.lanes ≡ self.old.journal.lanes)
             × (self.new.journal.lane ≡ self.old.journal.lane) }
-        ensures honesty { D.honest self.new.journal.disk ≡ D.honest self.old.journal.disk }
-        ensures rising { D.fault_count self.old.journal.disk ≤ D.fault_count self.new.journal.disk }
+        ensures honesty { D.told.honest self.new.journal.disk ≡ D.told.honest self.old.journal.disk }
+        ensures rising { D.told.fault_count self.old.journal.disk ≤ D.told.fault_count self.new.journal.disk }
     {
         match self.journal.append(bytes) {
             Ok(number) => {

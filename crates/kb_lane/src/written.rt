@@ -24,20 +24,20 @@ pub fn write<D: Disk>(
     settlement: Settlement,
 ) -> Result<(), AppendFault>
     requires ready { IsReadyOf machine.old today settlement.command settlement }
-    ensures outcome { Appends D.fault_count log.old log.new (today, settlement.command)
+    ensures outcome { Appends D.told.fault_count log.old log.new (today, settlement.command)
         (length (payload (today, settlement.command))) result }
     ensures few { OnOk result (length log.old.history < 2 ^ 32) }
     ensures machine { OnOk result (machine.new ≡ changed machine.old settlement.change) }
     ensures unchanged { OnErr result (machine.new ≡ machine.old) }
-    ensures moments { log.old.journal.stopped ≡ false → IsTrue (D.honest log.old.journal.disk)
-        → AtEachMoment D.moment D.left_since log.old.journal.disk log.new.journal.disk
+    ensures moments { log.old.journal.stopped ≡ false → IsTrue (D.told.honest log.old.journal.disk)
+        → AtEachMoment D.told.moment D.told.left_since log.old.journal.disk log.new.journal.disk
         (IsWithOrWithout log.old.journal.lanes log.old.journal.lane (payloads log.old.history)
         (payload (today, settlement.command))) }
     ensures same { (log.new.opened ≡ log.old.opened) × (log.new.faults ≡ log.old.faults) }
     ensures place { (log.new.journal.lanes ≡ log.old.journal.lanes)
         × (log.new.journal.lane ≡ log.old.journal.lane) }
-    ensures honesty { D.honest log.new.journal.disk ≡ D.honest log.old.journal.disk }
-    ensures rising { D.fault_count log.old.journal.disk ≤ D.fault_count log.new.journal.disk }
+    ensures honesty { D.told.honest log.new.journal.disk ≡ D.told.honest log.old.journal.disk }
+    ensures rising { D.told.fault_count log.old.journal.disk ≤ D.told.fault_count log.new.journal.disk }
 {
     let Settlement {
         command,

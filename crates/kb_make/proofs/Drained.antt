@@ -1,10 +1,9 @@
 -- A lane whose outbox is handled to its end has done all that was to do, if its gateway takes each payment.
-use Rattle.std.proofs.Common.{◌≡◌, ℕ, zero, suc, List, [], ◌∷◌, Option, None, Some, map, Result, Ok, refl}
+use Rattle.std.proofs.Common.{◌≡◌, ℕ, zero, suc, List, [], ◌∷◌, Option, None, Some, Result, Ok, refl}
 use Rattle.std.proofs.Common.{sym, ap, subst, ◌∙◌}
 use Rattle.kb_base.specs.declared.fault.Failed.{Failed}
 use Rattle.kb_gateway.specs.declared.order.Asked.{Asked}
 use Rattle.kb_gateway.specs.declared.told.Call.{Call}
-use Rattle.kb_gateway.specs.declared.told.Saying.{Saying}
 use Rattle.kb_gateway.specs.declared.told.Told.{Told}
 use Rattle.kb_gateway.specs.declared.told.Told.TheVariants.{Processed}
 use Rattle.kb_codec.specs.declared.command.Command.{Command}
@@ -19,7 +18,7 @@ use Rattle.kb_lane.specs.Draining.{due_of, with_outbox, Accepts, Looks}
 use Rattle.kb_lane.specs.Drains.{Drains, EndsAfter, Handles, HandlesFront}
 use Rattle.kb_machine.proofs.Replays.{replay_more}
 use Rattle.kb_make.specs.Makes.{IsDoneWith, accepted_if, done_times, first_done}
-use Rattle.kb_make.specs.Private.Sayings.{saying_of}
+use Rattle.kb_make.specs.Private.Sayings.{paid_told}
 use Rattle.kb_make.specs.Private.Sending.{busy_of}
 use Rattle.kb_make.proofs.Busy.{busy_same}
 use Rattle.kb_make.proofs.Paid.{notes_paid}
@@ -27,11 +26,7 @@ use Rattle.kb_make.proofs.Paid.{notes_paid}
 abbrev Past : Type 0
 Past = List (Asked × Call)
 
-abbrev said : Past → Option (List Saying)
-said past = Some (map saying_of past)
-
-module _ {D : Type 0} (fault_count : D → ℕ) (asked : Past → Option (List Asked)) (faults : Past → ℕ)
-    (today : ℕ) where
+module _ {D : Type 0} (fault_count : D → ℕ) (today : ℕ) where
   -- a lane that accepts a command, if there is one, is as busy as that leaves it
   accepts-done : (old new : LaneValue D Past) (later : List Work) (due : Option Command)
       → Accepts fault_count (with_outbox old later) new today due steps.Done
@@ -52,7 +47,7 @@ module _ {D : Type 0} (fault_count : D → ℕ) (asked : Past → Option (List A
 
   -- the first thing is done
   front-done : (old new : LaneValue D Past) (outbox : List Work)
-      → HandlesFront fault_count asked said faults today outbox old new steps.Done
+      → HandlesFront fault_count paid_told today outbox old new steps.Done
       → first_done today (machine_of old) outbox ≡ busy_of new
   front-done old new [] handles = let impossible : steps.Done ≡ steps.Idle = handles.0 in cc
   front-done old new (Check account ∷ later) handles =
@@ -77,7 +72,7 @@ module _ {D : Type 0} (fault_count : D → ℕ) (asked : Past → Option (List A
   looks-busy old new front later (Some command) looks = looks.0
 
   front-idle : (old new : LaneValue D Past) (outbox : List Work)
-      → HandlesFront fault_count asked said faults today outbox old new steps.Idle
+      → HandlesFront fault_count paid_told today outbox old new steps.Idle
       → (outbox ≡ []) × (new ≡ old)
   front-idle old new [] handles = (refl, handles.1)
   front-idle old new (Check account ∷ later) handles =
@@ -88,7 +83,7 @@ module _ {D : Type 0} (fault_count : D → ℕ) (asked : Past → Option (List A
 
   -- so many things are done, and nothing is left to do
   ends-done : (count : ℕ) (old new : LaneValue D Past)
-      → EndsAfter (Handles fault_count asked said faults today) count old new steps.Idle
+      → EndsAfter (Handles fault_count paid_told today) count old new steps.Idle
       → (done_times count today (busy_of old) ≡ record { machine = machine_of new; works = [] })
       × (new.outbox ≡ [])
   ends-done zero old new ends =
@@ -101,10 +96,10 @@ module _ {D : Type 0} (fault_count : D → ℕ) (asked : Past → Option (List A
       (ap (done_times count today) (front-done old ends.0 old.outbox ends.1) ∙ rest.0, rest.1)
 
   pub drained_done : (old new : LaneValue D Past)
-      → Drains fault_count asked said faults today old new steps.Idle
+      → Drains fault_count paid_told today old new steps.Idle
       → IsDoneWith today (busy_of old) (machine_of new)
   drained_done old new drains = (drains.0, (ends-done drains.0 old new drains.2).0)
 
   pub drained_idle : (old new : LaneValue D Past)
-      → Drains fault_count asked said faults today old new steps.Idle → new.outbox ≡ []
+      → Drains fault_count paid_told today old new steps.Idle → new.outbox ≡ []
   drained_idle old new drains = (ends-done drains.0 old new drains.2).1

@@ -8,7 +8,8 @@ use Rattle.kb_gateway.specs.declared.told.Heard.TheVariants as heard
 use Rattle.kb_gateway.specs.declared.told.Saying.{Saying}
 use Rattle.kb_gateway.specs.declared.told.Told.{Told}
 use Rattle.kb_gateway.specs.declared.told.Told.TheVariants.{Processed}
-use Rattle.kb_gateway.specs.Answers.{Notes, heard_of_ask, said_of_ask}
+use Rattle.kb_ports.specs.Notes.{Notes}
+use Rattle.kb_gateway.specs.Answers.{heard_of_ask, said_of_ask}
 use Rattle.kb_make.specs.Private.Sayings.{saying_of}
 
 -- what is heard of an answer that went through

@@ -1,7 +1,7 @@
 //! A gateway that takes each payment.
-ghost use Rattle.std.specs.Prelude.{◌≡◌, ◌++◌, ◌∷◌, [], None, Some, map};
+ghost use Rattle.std.specs.Prelude.{◌≡◌, ◌++◌, ◌∷◌, []};
 ghost use Rattle.kb_gateway.specs.Answers.{asked_of};
-ghost use Rattle.kb_make.specs.Private.Sayings.{saying_of};
+ghost use Rattle.kb_make.specs.Private.Sayings.{paid_told};
 
 use kb_base::{Failed, History};
 use kb_gateway::{Asked, Call, Gateway, Order, Seen, Told};
@@ -47,11 +47,7 @@ impl PaidAtOnce {
 }
 
 impl Gateway for PaidAtOnce {
-    ghost asked = { λ gateway. None };
-
-    ghost said = { λ gateway. Some (map saying_of gateway) };
-
-    ghost faults = { λ gateway. 0 };
+    ghost told = { paid_told };
 
     fn ask(&mut self, order: &Order) -> Result<Told, Failed> {
         self.note(order, Call::Ask);

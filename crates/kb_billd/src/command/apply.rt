@@ -3,7 +3,6 @@ ghost use Rattle.std.specs.Prelude.{◌≡◌, ◌≤◌, ◌<◌, ℕ, Err, tru
 ghost use Rattle.kb_base.specs.Faults.{Rose};
 ghost use Rattle.kb_runs.specs.declared.run_stop.RunStop.TheVariants.{Input, Output};
 ghost use Rattle.kb_apply.specs.LaneRuns.{outside_of};
-ghost use Rattle.kb_folder.specs.Folders.{told_of, words_of};
 ghost use Rattle.kb_runs.specs.declared.stop.Stop.TheVariants as stops;
 ghost use Rattle.kb_billd.specs.Runs.{AppliesFolder, stop_of_unopened};
 ghost use Rattle.kb_billd.specs.Private.OpenRuns.{RunsOpen};
@@ -11,7 +10,7 @@ ghost use Rattle.kb_billd.specs.Private.OpenRuns.{RunsOpen};
 use kb_apply::{Lanes, apply_lanes};
 use kb_disk::Vault;
 use kb_folder::{Unopened, open_lanes, put_back};
-use kb_gateway::{Gateway, Market};
+use kb_gateway::Market;
 use kb_lane::Lane;
 use kb_ports::{Clock, Sink, Source};
 use kb_runs::{RunStop, Stop};
@@ -28,14 +27,11 @@ pub fn apply_folder<I: Source, O: Sink, V: Vault, M: Market, C: Clock + Drop>(
     market: &mut M,
     clock: C,
 ) -> Result<(), Stop>
-    requires inside { (lane : ℕ) → V.is_out vault.old folder.now lane ≡ false }
-    ensures applied { AppliesFolder (words_of V.Disk.honest V.Disk.seen V.Disk.images V.Disk.fault_count)
-        (outside_of V.Disk.honest V.Disk.moment V.Disk.left_since V.Disk.fault_count M.Gateway.asked
-        M.Gateway.said
-        M.Gateway.faults C.day) (λ made place. M.serves made gateway.now place) folder.now clock
-        (told_of V.is_out V.lane_bytes V.file_bytes V.faults vault.old)
-        (told_of V.is_out V.lane_bytes V.file_bytes V.faults vault.new) (M.faults market.old)
-        (M.faults market.new)
+    requires inside { (lane : ℕ) → (V.told vault.old).is_out folder.now lane ≡ false }
+    ensures applied { AppliesFolder (outside_of V.Disk.told M.Gateway.told C.day)
+        (λ made place. M.serves made gateway.now place) folder.now clock
+        (V.told vault.old)
+        (V.told vault.new) (M.told market.old) (M.told market.new)
         (I.left input.old) (I.left input.new) (O.written output.old) (O.written output.new) result }
     ensures input_fault { result ≡ Err (stops.Run Input) → Rose (I.faults input.old) (I.faults input.new) }
     ensures output_fault { result ≡ Err (stops.Run Output)
@@ -43,30 +39,30 @@ pub fn apply_folder<I: Source, O: Sink, V: Vault, M: Market, C: Clock + Drop>(
     ensures output_rising { O.faults output.old ≤ O.faults output.new }
 {
     match open_lanes(alloc, vault, market, folder, gateway) {
-        Ok(lanes) => run_open(alloc, folder, lanes, input, output, vault, clock),
+        Ok(lanes) => run_open(alloc, folder, lanes, input, output, vault, market, clock),
         Err(fault) => Err(stop_of_unopened(fault)),
     }
 }
 
-/// Answers the lines of the input by lanes that are open, and gives their disks back.
-fn run_open<I: Source, O: Sink, V: Vault, G: Gateway + Drop, C: Clock + Drop>(
+/// Answers the lines of the input by lanes that are open, and gives their disks and gateways back.
+fn run_open<I: Source, O: Sink, V: Vault, M: Market, C: Clock + Drop>(
     alloc: Global,
     folder: &str,
-    lanes: Vec<Lane<V::Disk, G>>,
+    lanes: Vec<Lane<V::Disk, M::Gateway>>,
     input: &mut I,
     output: &mut O,
     vault: &mut V,
+    market: &mut M,
     clock: C,
 ) -> Result<(), Stop>
     requires some { 1 ≤ length lanes.items }
     requires few { length lanes.items ≤ 64 }
-    requires outside { (place : ℕ) → place < length lanes.items → V.is_out vault.old folder.now place ≡ true }
-    ensures ran { RunsOpen (words_of V.Disk.honest V.Disk.seen V.Disk.images V.Disk.fault_count)
-        (outside_of V.Disk.honest V.Disk.moment V.Disk.left_since V.Disk.fault_count G.asked G.said
-        G.faults C.day)
+    requires outside { (place : ℕ) → place < length lanes.items → (V.told vault.old).is_out folder.now place
+        ≡ true }
+    ensures ran { RunsOpen (outside_of V.Disk.told M.Gateway.told C.day)
         folder.now lanes.items clock
-        (told_of V.is_out V.lane_bytes V.file_bytes V.faults vault.old)
-        (told_of V.is_out V.lane_bytes V.file_bytes V.faults vault.new)
+        (V.told vault.old)
+        (V.told vault.new) (M.told market.old) (M.told market.new)
         (I.left input.old) (I.left input.new) (O.written output.old) (O.written output.new) result }
     ensures input_fault { result ≡ Err (stops.Run Input) → Rose (I.faults input.old) (I.faults input.new) }
     ensures output_fault { result ≡ Err (stops.Run Output) → Rose (O.faults output.old) (O.faults output.new) }
@@ -74,7 +70,7 @@ fn run_open<I: Source, O: Sink, V: Vault, G: Gateway + Drop, C: Clock + Drop>(
 {
     let mut lanes = Lanes::new(lanes, clock);
     let outcome = apply_lanes(alloc, &mut lanes, input, output);
-    put_back(vault, folder, lanes.into_lanes());
+    put_back(vault, market, folder, lanes.into_lanes());
     outcome
 }
 

@@ -1,6 +1,5 @@
 //! `init`: the lanes of a folder, made with a catalog text and an overdue text.
 ghost use Rattle.std.specs.Prelude.{◌≡◌, ℕ, false};
-ghost use Rattle.kb_folder.specs.Folders.{told_of};
 ghost use Rattle.kb_billd.specs.Foundings.{FoundsFolder, outcome_of_founding, stop_of_unfounded};
 
 use kb_days::Day;
@@ -17,10 +16,10 @@ pub fn init_folder<V: Vault>(
     today: Day,
     init: &Init,
 ) -> Result<(), Stop>
-    requires inside { (lane : ℕ) → V.is_out vault.old init.now.dir lane ≡ false }
+    requires inside { (lane : ℕ) → (V.told vault.old).is_out init.now.dir lane ≡ false }
     ensures { FoundsFolder today init.now
-        (told_of V.is_out V.lane_bytes V.file_bytes V.faults vault.old)
-        (told_of V.is_out V.lane_bytes V.file_bytes V.faults vault.new) result }
+        (V.told vault.old)
+        (V.told vault.new) result }
 {
     outcome_of(found_lanes(
         alloc,

@@ -3,7 +3,6 @@ ghost use Rattle.std.specs.Prelude.{◌≡◌, ◌≤◌, ◌<◌, ℕ, Err, tru
 ghost use Rattle.kb_base.specs.Faults.{Rose};
 ghost use Rattle.kb_lane.specs.Lanes.{machine_of};
 ghost use Rattle.kb_runs.specs.declared.run_stop.RunStop.TheVariants.{Input, Output};
-ghost use Rattle.kb_folder.specs.Folders.{told_of, words_of};
 ghost use Rattle.kb_folder.specs.Openings.{AreBack};
 ghost use Rattle.kb_runs.specs.declared.stop.Stop.TheVariants as stops;
 ghost use Rattle.kb_reports.specs.declared.printing.Unprinted.TheVariants as unprinted;
@@ -31,12 +30,12 @@ pub fn report_folder<O: Sink, V: Vault>(
     output: &mut O,
     vault: &mut V,
 ) -> Result<(), Stop>
-    requires inside { (lane : ℕ) → V.is_out vault.old folder.now lane ≡ false }
-    ensures reported { ReportsFolder (words_of V.Disk.honest V.Disk.seen V.Disk.images V.Disk.fault_count)
+    requires inside { (lane : ℕ) → (V.told vault.old).is_out folder.now lane ≡ false }
+    ensures reported { ReportsFolder V.Disk.told
         folder.now
         (said_by kind day)
-        (told_of V.is_out V.lane_bytes V.file_bytes V.faults vault.old)
-        (told_of V.is_out V.lane_bytes V.file_bytes V.faults vault.new)
+        (V.told vault.old)
+        (V.told vault.new)
         (O.written output.old) (O.written output.new) result }
     ensures read_no_input { result ≡ Err (stops.Run Input) → ⊥ }
     ensures output { result ≡ Err (stops.Run Output) → Rose (O.faults output.old) (O.faults output.new) }
@@ -59,17 +58,18 @@ fn report_open<O: Sink, V: Vault>(
     vault: &mut V,
 ) -> Result<(), Unprinted>
     requires few { length lanes.items ≤ 64 }
-    requires outside { (place : ℕ) → place < length lanes.items → V.is_out vault.old folder.now place ≡ true }
+    requires outside { (place : ℕ) → place < length lanes.items → (V.told vault.old).is_out folder.now place
+        ≡ true }
     ensures prints { PrintsBy (said_by kind day) (map machine_of lanes.items)
         (O.written output.old) (O.written output.new) result }
-    ensures back { AreBack (words_of V.Disk.honest V.Disk.seen V.Disk.images V.Disk.fault_count) folder.now
-        (told_of V.is_out V.lane_bytes V.file_bytes V.faults vault.old)
-        (told_of V.is_out V.lane_bytes V.file_bytes V.faults vault.new) lanes.items }
+    ensures back { AreBack V.Disk.told folder.now
+        (V.told vault.old)
+        (V.told vault.new) lanes.items }
     ensures output { result ≡ Err unprinted.Output → Rose (O.faults output.old) (O.faults output.new) }
     ensures output_rising { O.faults output.old ≤ O.faults output.new }
 {
     let printed = print_by(alloc, kind, day, &lanes, output);
-    put_back(vault, folder, lanes);
+    put_back(vault, &mut NoMarket, folder, lanes);
     printed
 }
 

@@ -1,4 +1,3 @@
-use Rattle.kb_folder.specs.Folders.{told_of, words_of}
 use Rattle.kb_billd.proofs.Founded.{founding_no_input, founding_no_output}
 use Rattle.kb_billd.proofs.Untouched.{founds, makes, reports}
 use Rattle.kb_billd.proofs.top.act.Goals as goal
@@ -6,36 +5,35 @@ use Rattle.kb_billd.proofs.top.act.Goals as goal
 pub returns-in-Init-clause-does : goal.returns-in-Init-clause-does
 returns-in-Init-clause-does g c = rw c.in-Init.is (founds (g.C.Clock.day c.args.clock) c.in-Init.init
     (g.I.Source.left c.args.input.now)
-    (g.O.Sink.written c.args.output.now) (told_of g.V.Vault.is_out g.V.Vault.lane_bytes g.V.Vault.file_bytes
-    g.V.Vault.faults c.args.vault.now)
-    (told_of g.V.Vault.is_out g.V.Vault.lane_bytes g.V.Vault.file_bytes g.V.Vault.faults c.init_on.new.vault)
-    (g.M.Market.faults c.args.market.now) c.init_on.result c.init_on.ensures.0 c.init_on.ensures.1
+    (g.O.Sink.written c.args.output.now) (g.V.Vault.told c.args.vault.now)
+    (g.V.Vault.told c.init_on.new.vault)
+    (g.M.Market.told c.args.market.now) c.init_on.result c.init_on.ensures.0 c.init_on.ensures.1
     c.init_on.ensures.2)
 
 pub returns-in-Init-clause-input : goal.returns-in-Init-clause-input
 returns-in-Init-clause-input g c = λ is. absurd (founding_no_input c.init_on.ensures.0 c.in-Init.init
-    (told_of g.V.Vault.is_out g.V.Vault.lane_bytes g.V.Vault.file_bytes g.V.Vault.faults c.args.vault.now)
-    (told_of g.V.Vault.is_out g.V.Vault.lane_bytes g.V.Vault.file_bytes g.V.Vault.faults c.init_on.new.vault)
+    (g.V.Vault.told c.args.vault.now)
+    (g.V.Vault.told c.init_on.new.vault)
     c.init_on.result c.init_on.ensures.2 is)
 
 pub returns-in-Init-clause-output : goal.returns-in-Init-clause-output
 returns-in-Init-clause-output g c = λ is. absurd (founding_no_output c.init_on.ensures.0 c.in-Init.init
-    (told_of g.V.Vault.is_out g.V.Vault.lane_bytes g.V.Vault.file_bytes g.V.Vault.faults c.args.vault.now)
-    (told_of g.V.Vault.is_out g.V.Vault.lane_bytes g.V.Vault.file_bytes g.V.Vault.faults c.init_on.new.vault)
+    (g.V.Vault.told c.args.vault.now)
+    (g.V.Vault.told c.init_on.new.vault)
     c.init_on.result c.init_on.ensures.2 is)
 
 pub returns-in-Report-clause-does : goal.returns-in-Report-clause-does
 returns-in-Report-clause-does g c = rw c.in-Report.is (reports
-    (words_of g.V.Disk.Disk.honest g.V.Disk.Disk.seen g.V.Disk.Disk.images g.V.Disk.Disk.fault_count)
+    g.V.Disk.Disk.told
     c.in-Report.report (g.I.Source.left c.args.input.now) (g.O.Sink.written c.args.output.now)
     (g.O.Sink.written c.report_by.new.output)
-    (told_of g.V.Vault.is_out g.V.Vault.lane_bytes g.V.Vault.file_bytes g.V.Vault.faults c.args.vault.now)
-    (told_of g.V.Vault.is_out g.V.Vault.lane_bytes g.V.Vault.file_bytes g.V.Vault.faults
+    (g.V.Vault.told c.args.vault.now)
+    (g.V.Vault.told
     c.report_by.new.vault)
-    (g.M.Market.faults c.args.market.now) c.report_by.result c.report_by.ensures.reported)
+    (g.M.Market.told c.args.market.now) c.report_by.result c.report_by.ensures.reported)
 
 pub returns-in-Make-clause-does : goal.returns-in-Make-clause-does
 returns-in-Make-clause-does g c = rw c.in-Make.is (makes c.in-Make.make (g.I.Source.left c.args.input.now)
     (g.O.Sink.written c.args.output.now) (g.O.Sink.written c.make_accounts.new.output)
-    (told_of g.V.Vault.is_out g.V.Vault.lane_bytes g.V.Vault.file_bytes g.V.Vault.faults c.args.vault.now)
-    (g.M.Market.faults c.args.market.now) c.make_accounts.result c.make_accounts.ensures.made)
+    (g.V.Vault.told c.args.vault.now)
+    (g.M.Market.told c.args.market.now) c.make_accounts.result c.make_accounts.ensures.made)

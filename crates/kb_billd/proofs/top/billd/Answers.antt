@@ -2,9 +2,8 @@ use Rattle.std.proofs.Common.{◌≡◌, Err, map, string_bytes}
 use Rattle.kb_runs.specs.declared.run_stop.RunStop.TheVariants as runs
 use Rattle.kb_words.specs.Grammar.{words_of as words_of_grammar}
 use Rattle.kb_apply.specs.LaneRuns.{outside_of}
-use Rattle.kb_folder.specs.Folders.{told_of, words_of}
 use Rattle.kb_runs.specs.declared.stop.Stop.TheVariants as stops
-use Rattle.kb_billd.specs.TopCall.{alone, around_of}
+use Rattle.kb_billd.specs.TopCall.{around_of}
 use Rattle.kb_billd.proofs.Causes.{begins_disk, begins_inside, begins_market}
 use Rattle.kb_billd.proofs.Untouched.{rose_over}
 use Rattle.kb_billd.proofs.top.billd.Goals as goal
@@ -28,54 +27,39 @@ returns-clause-output g c = λ is. rose_over (g.O.Sink.faults c.args.output.now)
     c.begin-run.ensures.output (c.close.ensures.cause is)
 
 pub returns-clause-inside : goal.returns-clause-inside
-returns-clause-inside g c = begins_inside (words_of g.V.Disk.Disk.honest g.V.Disk.Disk.seen
-    g.V.Disk.Disk.images g.V.Disk.Disk.fault_count)
-    (outside_of g.V.Disk.Disk.honest g.V.Disk.Disk.moment g.V.Disk.Disk.left_since
-    g.V.Disk.Disk.fault_count g.M.Gateway.Gateway.asked g.M.Gateway.Gateway.said g.M.Gateway.Gateway.faults
-    g.C.Clock.day)
-    (alone g.V.Disk.Disk.honest g.V.Disk.Disk.moment g.V.Disk.Disk.left_since g.V.Disk.Disk.fault_count
+returns-clause-inside g c = begins_inside (outside_of g.V.Disk.Disk.told g.M.Gateway.Gateway.told
     g.C.Clock.day) g.M.Market.serves c.args.clock
     (around_of (g.I.Source.left c.args.input.now) (g.O.Sink.written c.args.output.now)
-    (told_of g.V.Vault.is_out g.V.Vault.lane_bytes g.V.Vault.file_bytes g.V.Vault.faults c.args.vault.now)
-    (g.M.Market.faults c.args.market.now))
+    (g.V.Vault.told c.args.vault.now)
+    (g.M.Market.told c.args.market.now))
     (around_of (g.I.Source.left c.begin-run.new.input) (g.O.Sink.written c.begin-run.new.output)
-    (told_of g.V.Vault.is_out g.V.Vault.lane_bytes g.V.Vault.file_bytes g.V.Vault.faults
-    c.begin-run.new.vault) (g.M.Market.faults c.begin-run.new.market))
+    (g.V.Vault.told
+    c.begin-run.new.vault) (g.M.Market.told c.begin-run.new.market))
     c.begin-run.result (words_of_grammar (map string_bytes c.args.words.now.items))
     c.begin-run.ensures.begins
 
 pub returns-clause-disk : goal.returns-clause-disk
-returns-clause-disk g c = λ is. begins_disk (words_of g.V.Disk.Disk.honest g.V.Disk.Disk.seen
-    g.V.Disk.Disk.images g.V.Disk.Disk.fault_count)
-    (outside_of g.V.Disk.Disk.honest g.V.Disk.Disk.moment g.V.Disk.Disk.left_since
-    g.V.Disk.Disk.fault_count g.M.Gateway.Gateway.asked g.M.Gateway.Gateway.said g.M.Gateway.Gateway.faults
-    g.C.Clock.day)
-    (alone g.V.Disk.Disk.honest g.V.Disk.Disk.moment g.V.Disk.Disk.left_since g.V.Disk.Disk.fault_count
+returns-clause-disk g c = λ is. begins_disk (outside_of g.V.Disk.Disk.told g.M.Gateway.Gateway.told
     g.C.Clock.day) g.M.Market.serves c.args.clock
     (around_of (g.I.Source.left c.args.input.now) (g.O.Sink.written c.args.output.now)
-    (told_of g.V.Vault.is_out g.V.Vault.lane_bytes g.V.Vault.file_bytes g.V.Vault.faults c.args.vault.now)
-    (g.M.Market.faults c.args.market.now))
+    (g.V.Vault.told c.args.vault.now)
+    (g.M.Market.told c.args.market.now))
     (around_of (g.I.Source.left c.begin-run.new.input) (g.O.Sink.written c.begin-run.new.output)
-    (told_of g.V.Vault.is_out g.V.Vault.lane_bytes g.V.Vault.file_bytes g.V.Vault.faults
-    c.begin-run.new.vault) (g.M.Market.faults c.begin-run.new.market))
+    (g.V.Vault.told
+    c.begin-run.new.vault) (g.M.Market.told c.begin-run.new.market))
     c.begin-run.result (words_of_grammar (map string_bytes c.args.words.now.items))
     c.begin-run.ensures.begins
     (c.close.ensures.tells.disk is)
 
 pub returns-clause-market : goal.returns-clause-market
-returns-clause-market g c = λ is. begins_market (words_of g.V.Disk.Disk.honest g.V.Disk.Disk.seen
-    g.V.Disk.Disk.images g.V.Disk.Disk.fault_count)
-    (outside_of g.V.Disk.Disk.honest g.V.Disk.Disk.moment g.V.Disk.Disk.left_since
-    g.V.Disk.Disk.fault_count g.M.Gateway.Gateway.asked g.M.Gateway.Gateway.said g.M.Gateway.Gateway.faults
-    g.C.Clock.day)
-    (alone g.V.Disk.Disk.honest g.V.Disk.Disk.moment g.V.Disk.Disk.left_since g.V.Disk.Disk.fault_count
+returns-clause-market g c = λ is. begins_market (outside_of g.V.Disk.Disk.told g.M.Gateway.Gateway.told
     g.C.Clock.day) g.M.Market.serves c.args.clock
     (around_of (g.I.Source.left c.args.input.now) (g.O.Sink.written c.args.output.now)
-    (told_of g.V.Vault.is_out g.V.Vault.lane_bytes g.V.Vault.file_bytes g.V.Vault.faults c.args.vault.now)
-    (g.M.Market.faults c.args.market.now))
+    (g.V.Vault.told c.args.vault.now)
+    (g.M.Market.told c.args.market.now))
     (around_of (g.I.Source.left c.begin-run.new.input) (g.O.Sink.written c.begin-run.new.output)
-    (told_of g.V.Vault.is_out g.V.Vault.lane_bytes g.V.Vault.file_bytes g.V.Vault.faults
-    c.begin-run.new.vault) (g.M.Market.faults c.begin-run.new.market))
+    (g.V.Vault.told
+    c.begin-run.new.vault) (g.M.Market.told c.begin-run.new.market))
     c.begin-run.result (words_of_grammar (map string_bytes c.args.words.now.items))
     c.begin-run.ensures.begins
     (c.close.ensures.tells.market is)

@@ -5,10 +5,9 @@ use Rattle.kb_desk.proofs.places.look_up_in.Goals as goal
 
 pub returns-clause-looked : goal.returns-clause-looked
 returns-clause-looked g c =
-    goes_at (λ lane next. LooksAllUp g.D.Disk.fault_count g.G.Gateway.asked g.G.Gateway.said
-    g.G.Gateway.faults
+    goes_at (λ lane next. LooksAllUp g.D.Disk.told.fault_count g.G.Gateway.told
     c.args.today lane next c.janitor.result
-    × Continues g.D.Disk.honest g.D.Disk.moment g.D.Disk.left_since g.D.Disk.fault_count lane next)
+    × Continues g.D.Disk.told.honest g.D.Disk.told.moment g.D.Disk.told.left_since g.D.Disk.told.fault_count lane next)
     c.args.lanes.now.items c.args.place c.index_mut.result.now
     c.janitor.new.self c.requires.within c.index_mut.ensures.value (
       record {

@@ -10,7 +10,8 @@ use Rattle.kb_folder.proofs.founding.found_lanes.Goals as goal
 abbrev Ran : (g : _) → goal.After-drop-first g → Type 0
 Ran g c = Founds c.args.folder.now c.args.lanes
     (payloads (first_commands c.args.today c.in-Ok.ensures.records.0 c.in-Ok.ensures.records.1))
-    (g.V.Vault.lane_bytes c.args.vault.now) (g.V.Vault.lane_bytes c.found_each.new.vault) c.found_each.result
+    (g.V.Vault.told c.args.vault.now).lane_bytes (g.V.Vault.told c.found_each.new.vault).lane_bytes
+    c.found_each.result
 
 ran : (g : _) (c : goal.After-drop-first g) → Ran g c
 ran g c =
@@ -20,38 +21,42 @@ ran g c =
     let first : c.deref.result.now ≡ payload (c.args.today, catalog_command told.0) = let is = told.3 in cc in
     let second : c.deref-2.result.now ≡ payload (c.args.today, overdue_command told.1) = let is =
     told.4 in cc in
-    from_start c.args.folder.now c.args.lanes _ (g.V.Vault.lane_bytes c.both_records.new.vault)
-    (g.V.Vault.lane_bytes c.found_each.new.vault) (g.V.Vault.lane_bytes c.args.vault.now) c.found_each.result
+    from_start c.args.folder.now c.args.lanes _ (g.V.Vault.told c.both_records.new.vault).lane_bytes
+    (g.V.Vault.told c.found_each.new.vault).lane_bytes (g.V.Vault.told c.args.vault.now).lane_bytes
+    c.found_each.result
     c.both_records.ensures.same_lanes
     (subst (λ (records : List (List _)). Founds c.args.folder.now c.args.lanes records
-    (g.V.Vault.lane_bytes c.both_records.new.vault) (g.V.Vault.lane_bytes c.found_each.new.vault)
+    (g.V.Vault.told c.both_records.new.vault).lane_bytes (g.V.Vault.told c.found_each.new.vault).lane_bytes
     c.found_each.result)
     (ap₂ (λ a b. a ∷ b ∷ []) first second) c.found_each.ensures.founds)
 
 pub returns-clause-founded : goal.returns-clause-founded
 returns-clause-founded g c =
     founded_with c.args.today c.args.folder.now c.args.lanes
-    (g.V.Vault.file_bytes c.args.vault.now c.args.catalog.now)
-    (g.V.Vault.file_bytes c.args.vault.now c.args.overdue.now) (g.V.Vault.lane_bytes c.args.vault.now)
-    (g.V.Vault.lane_bytes c.found_each.new.vault) c.in-Ok.ensures.records.0 c.in-Ok.ensures.records.1
+    ((g.V.Vault.told c.args.vault.now).file_bytes c.args.catalog.now)
+    ((g.V.Vault.told c.args.vault.now).file_bytes c.args.overdue.now)
+    (g.V.Vault.told c.args.vault.now).lane_bytes
+    (g.V.Vault.told c.found_each.new.vault).lane_bytes c.in-Ok.ensures.records.0 c.in-Ok.ensures.records.1
     c.in-Ok.ensures.records.2 c.found_each.result (ran g c)
 
 pub returns-clause-refused : goal.returns-clause-refused
 returns-clause-refused g c =
-    tells_of (g.V.Vault.file_bytes c.args.vault.now c.args.catalog.now)
-    (g.V.Vault.file_bytes c.args.vault.now c.args.overdue.now) c.found_each.result
-    (no_text c.args.folder.now c.args.lanes _ (g.V.Vault.lane_bytes c.args.vault.now)
-    (g.V.Vault.lane_bytes c.found_each.new.vault) c.found_each.result (ran g c)) c.in-Ok.ensures.judged
+    tells_of ((g.V.Vault.told c.args.vault.now).file_bytes c.args.catalog.now)
+    ((g.V.Vault.told c.args.vault.now).file_bytes c.args.overdue.now) c.found_each.result
+    (no_text c.args.folder.now c.args.lanes _ (g.V.Vault.told c.args.vault.now).lane_bytes
+    (g.V.Vault.told c.found_each.new.vault).lane_bytes c.found_each.result (ran g c)) c.in-Ok.ensures.judged
 
 pub returns-clause-untouched : goal.returns-clause-untouched
 returns-clause-untouched g c =
-    λ fault is. absurd (no_text c.args.folder.now c.args.lanes _ (g.V.Vault.lane_bytes c.args.vault.now)
-    (g.V.Vault.lane_bytes c.found_each.new.vault) c.found_each.result (ran g c) fault is)
+    λ fault is. absurd (no_text c.args.folder.now c.args.lanes _ (g.V.Vault.told c.args.vault.now).lane_bytes
+    (g.V.Vault.told c.found_each.new.vault).lane_bytes c.found_each.result (ran g c) fault is)
 
 pub returns-clause-not_empty : goal.returns-clause-not_empty
 returns-clause-not_empty g c =
-    λ lane is. let left = one_left c.args.folder.now c.args.lanes _ (g.V.Vault.lane_bytes c.args.vault.now)
-    (g.V.Vault.lane_bytes c.found_each.new.vault) c.found_each.result (ran g c) lane is in (left.0, left.2)
+    λ lane is. let left = one_left c.args.folder.now c.args.lanes _
+    (g.V.Vault.told c.args.vault.now).lane_bytes
+    (g.V.Vault.told c.found_each.new.vault).lane_bytes c.found_each.result (ran g c) lane is in
+    (left.0, left.2)
 
 pub returns-clause-before : goal.returns-clause-before
 returns-clause-before g c =
@@ -59,24 +64,25 @@ returns-clause-before g c =
       told.0,
       told.1,
       told.2,
-      (one_left c.args.folder.now c.args.lanes _ (g.V.Vault.lane_bytes c.args.vault.now)
-          (g.V.Vault.lane_bytes c.found_each.new.vault) c.found_each.result (ran g c) lane is).1,
+      (one_left c.args.folder.now c.args.lanes _ (g.V.Vault.told c.args.vault.now).lane_bytes
+          (g.V.Vault.told c.found_each.new.vault).lane_bytes c.found_each.result (ran g c) lane is).1,
     )
 
 pub returns-clause-unharmed : goal.returns-clause-unharmed
 returns-clause-unharmed g c =
     unharmed_with c.args.today c.args.folder.now c.args.lanes
-    (g.V.Vault.file_bytes c.args.vault.now c.args.catalog.now)
-    (g.V.Vault.file_bytes c.args.vault.now c.args.overdue.now) (g.V.Vault.lane_bytes c.args.vault.now)
-    (g.V.Vault.lane_bytes c.found_each.new.vault) c.in-Ok.ensures.records.0 c.in-Ok.ensures.records.1
+    ((g.V.Vault.told c.args.vault.now).file_bytes c.args.catalog.now)
+    ((g.V.Vault.told c.args.vault.now).file_bytes c.args.overdue.now)
+    (g.V.Vault.told c.args.vault.now).lane_bytes
+    (g.V.Vault.told c.found_each.new.vault).lane_bytes c.in-Ok.ensures.records.0 c.in-Ok.ensures.records.1
     c.in-Ok.ensures.records.2 c.found_each.result (ran g c)
 
 pub returns-clause-others : goal.returns-clause-others
 returns-clause-others g c =
-    others_same c.args.folder.now c.args.lanes _ (g.V.Vault.lane_bytes c.args.vault.now)
-    (g.V.Vault.lane_bytes c.found_each.new.vault) c.found_each.result (ran g c)
+    others_same c.args.folder.now c.args.lanes _ (g.V.Vault.told c.args.vault.now).lane_bytes
+    (g.V.Vault.told c.found_each.new.vault).lane_bytes c.found_each.result (ran g c)
 
 pub returns-clause-counted : goal.returns-clause-counted
 returns-clause-counted g c =
-    subst (λ old. CountsFaults old (g.V.Vault.faults c.found_each.new.vault) c.found_each.result)
+    subst (λ old. CountsFaults old (g.V.Vault.told c.found_each.new.vault).faults c.found_each.result)
     c.in-Ok.ensures.counted c.found_each.ensures.counted

@@ -7,8 +7,8 @@ use Rattle.kb_folder.proofs.lanes.found_each.Given as goal
 abbrev pub invariant-loop-lane : goal.invariant-loop-lane
 invariant-loop-lane g l =
     FoundsFirst l.folder l.lanes l.lane l.lane (l.first ∷ l.second ∷ [])
-    (g.V.Vault.lane_bytes l.initial.vault)
-    (g.V.Vault.lane_bytes l.vault)
-    × SameLanes (g.V.Vault.is_out l.vault) (g.V.Vault.is_out l.initial.vault)
-    × SameFiles (g.V.Vault.file_bytes l.vault) (g.V.Vault.file_bytes l.initial.vault)
-    × (g.V.Vault.faults l.vault ≡ g.V.Vault.faults l.initial.vault)
+    (g.V.Vault.told l.initial.vault).lane_bytes
+    (g.V.Vault.told l.vault).lane_bytes
+    × SameLanes (g.V.Vault.told l.vault).is_out (g.V.Vault.told l.initial.vault).is_out
+    × SameFiles (g.V.Vault.told l.vault).file_bytes (g.V.Vault.told l.initial.vault).file_bytes
+    × ((g.V.Vault.told l.vault).faults ≡ (g.V.Vault.told l.initial.vault).faults)

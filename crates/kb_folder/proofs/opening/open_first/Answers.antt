@@ -1,5 +1,4 @@
-use Rattle.std.proofs.Common.{ap, length}
-use Rattle.kb_folder.specs.Folders.{told_of, words_of}
+use Rattle.std.proofs.Common.{ap, length, ◌∙◌}
 use Rattle.kb_folder.proofs.LeftIn.{unadded}
 use Rattle.kb_folder.proofs.Added.{added}
 use Rattle.kb_folder.proofs.Served.{none_served, one_more_served}
@@ -7,8 +6,8 @@ use Rattle.kb_folder.proofs.opening.open_first.Goals as goal
 
 pub returns-in-Ok-add-clause-added : goal.returns-in-Ok-add-clause-added
 returns-in-Ok-add-clause-added g c =
-    added (words_of g.V.Disk.Disk.honest g.V.Disk.Disk.seen g.V.Disk.Disk.images g.V.Disk.Disk.fault_count)
-    (told_of g.V.Vault.is_out g.V.Vault.lane_bytes g.V.Vault.file_bytes g.V.Vault.faults)
+    added g.V.Disk.Disk.told
+    g.V.Vault.told
     c.args.folder.now c.in-Ok.lane.log.journal.lanes 0 c.args.vault.now c.open_lane.new.vault c.add.new.vault
     c.in-Ok.lane c.in-Ok.ensures.opened c.lanes-count.result c.args.lanes.now.items c.add.new.lanes.items
     c.in-Ok-add.ensures.added c.in-Ok-add.ensures.kept c.lanes-count.ensures
@@ -16,12 +15,12 @@ returns-in-Ok-add-clause-added g c =
 
 pub returns-in-Err-add-clause-refused : goal.returns-in-Err-add-clause-refused
 returns-in-Err-add-clause-refused g c count =
-    unadded (words_of g.V.Disk.Disk.honest g.V.Disk.Disk.seen g.V.Disk.Disk.images g.V.Disk.Disk.fault_count)
-    (told_of g.V.Vault.is_out g.V.Vault.lane_bytes g.V.Vault.file_bytes g.V.Vault.faults)
+    unadded g.V.Disk.Disk.told
+    g.V.Vault.told
     c.args.folder.now c.in-Ok.lane.log.journal.lanes 0 c.args.vault.now c.open_lane.new.vault c.add.new.vault
-    c.in-Ok.lane c.in-Ok.ensures.opened count (g.M.Market.faults c.args.market.now)
-    (g.M.Market.faults c.open_lane.new.market) c.in-Err-add.fault c.in-Err-add.ensures.fault
-    c.in-Ok.ensures.calm
+    c.in-Ok.lane c.in-Ok.ensures.opened count (g.M.Market.told c.args.market.now).faults
+    (g.M.Market.told c.add.new.market).faults c.in-Err-add.fault c.in-Err-add.ensures.fault
+    (c.in-Err-add.ensures.gateway.calm ∙ c.in-Ok.ensures.calm)
     c.requires.inside c.in-Err-add.ensures.back
 
 pub returns-in-Ok-add-clause-served : goal.returns-in-Ok-add-clause-served

@@ -5,7 +5,8 @@ pub returns-clause-record : goal.returns-clause-record
 returns-clause-record g c =
     let found = c.in_ok-written_overdue.ensures.record in (
       found.0,
-      text_kept (g.V.Vault.file_bytes c.args.vault.now c.args.name.now) c.in_ok-text.text.items found.0.text
+      text_kept ((g.V.Vault.told c.args.vault.now).file_bytes c.args.name.now) c.in_ok-text.text.items
+          found.0.text
           c.in_ok-text.ensures.bytes found.1 (overdue_short found.0.text found.0.states found.2),
       found.2,
       found.3,

@@ -52,19 +52,19 @@ loop-account-preserved g c =
         done ++ (reply, step) ∷ [],
         counted ∙ ap (λ tally. with_answer tally (reply, step)) c.loop-account.invariant.0.1
             ∙ sym (tally_more done (reply, step)),
-        each_billed g.D.Disk.fault_count g.G.Gateway.asked g.G.Gateway.said g.G.Gateway.faults c.args.day
+        each_billed g.D.Disk.told.fault_count g.G.Gateway.told c.args.day
             c.args.accounts.now place c.args.lane.now c.loop-account.lane done c.loop-account.invariant.0.2
             c.account-item.result c.loop-account-test.true c.account-item.is c.bill_account-reply.new.lane
             (reply, step) c.bill_account-reply.ensures.billed,
       ),
       rw counted (subst (λ count. IsAtMost count (with_answer c.loop-account.tally (reply, step)))
           further most),
-      well_then g.D.Disk.honest g.D.Disk.moment g.D.Disk.left_since c.args.lane.now.log
+      well_then g.D.Disk.told.honest g.D.Disk.told.moment g.D.Disk.told.left_since c.args.lane.now.log
           c.loop-account.lane.log
           c.bill_account-reply.new.lane.log c.loop-account.invariant.2 c.bill_account-reply.ensures.well
           c.loop-account.invariant.3.as_honest c.bill_account-reply.ensures.itself.lanes
           c.bill_account-reply.ensures.itself.lane,
-      itself_then g.D.Disk.honest g.D.Disk.fault_count c.args.lane.now c.loop-account.lane
+      itself_then g.D.Disk.told.honest g.D.Disk.told.fault_count c.args.lane.now c.loop-account.lane
           c.bill_account-reply.new.lane c.loop-account.invariant.3 c.bill_account-reply.ensures.itself,
     )
 
@@ -73,11 +73,10 @@ returns-clause-billed g c =
     let done = c.loop-account.invariant.0.0 in
     let end : length c.args.accounts.now ≤ c.loop-account.account-index =
     omega (arith, c.loop-account-test.false) in
-    let all = all_billed g.D.Disk.fault_count g.G.Gateway.asked g.G.Gateway.said g.G.Gateway.faults c.args.day
+    let all = all_billed g.D.Disk.told.fault_count g.G.Gateway.told c.args.day
     c.args.accounts.now c.loop-account.account-index c.args.lane.now c.loop-account.lane done
     c.loop-account.invariant.0.2 end in
     let P : List Answer → Type 0
-    = λ answers. BillsEach g.D.Disk.fault_count g.G.Gateway.asked g.G.Gateway.said
-    g.G.Gateway.faults c.args.day
+    = λ answers. BillsEach g.D.Disk.told.fault_count g.G.Gateway.told c.args.day
     c.args.accounts.now c.args.lane.now c.loop-account.lane answers in
     (done, c.loop-account.invariant.0.1, subst P (append-nil done) all)

@@ -10,10 +10,11 @@ abbrev pub invariant-loop-account : goal.invariant-loop-account
 invariant-loop-account g l =
     ((done : List Answer) × (l.tally ≡ tally_of done)
     × ((new : LaneValue g.row.D.Denot g.row.G.Denot) (rest : List Answer)
-    → BillsEach g.D.Disk.fault_count g.G.Gateway.asked g.G.Gateway.said g.G.Gateway.faults l.day
+    → BillsEach g.D.Disk.told.fault_count g.G.Gateway.told l.day
     (drop l.account-index l.accounts) l.lane new rest
-    → BillsEach g.D.Disk.fault_count g.G.Gateway.asked g.G.Gateway.said g.G.Gateway.faults l.day l.accounts
+    → BillsEach g.D.Disk.told.fault_count g.G.Gateway.told l.day l.accounts
     l.initial.lane new (done ++ rest)))
     × IsAtMost (2 * l.account-index) l.tally
-    × GoesWell g.D.Disk.honest g.D.Disk.moment g.D.Disk.left_since l.initial.lane.log l.lane.log
-    × StaysItself g.D.Disk.honest g.D.Disk.fault_count l.initial.lane l.lane
+    × GoesWell g.D.Disk.told.honest g.D.Disk.told.moment g.D.Disk.told.left_since l.initial.lane.log
+    l.lane.log
+    × StaysItself g.D.Disk.told.honest g.D.Disk.told.fault_count l.initial.lane l.lane

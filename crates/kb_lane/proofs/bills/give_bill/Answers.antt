@@ -6,7 +6,8 @@ use Rattle.kb_lane.proofs.bills.give_bill.Goals as goal
 
 pub returns-clause-well : goal.returns-clause-well
 returns-clause-well g c =
-    well_performs g.D.Disk.honest g.D.Disk.moment g.D.Disk.left_since g.D.Disk.fault_count c.args.lane.now
+    well_performs g.D.Disk.told.honest g.D.Disk.told.moment g.D.Disk.told.left_since
+    g.D.Disk.told.fault_count c.args.lane.now
     c.perform.new.self c.args.day c.perform.ensures.itself.lanes c.perform.ensures.itself.lane
     (kinds.Act c.args.account c.args.key (actions.Bill (record { day = Some c.args.day })))
     c.perform.result

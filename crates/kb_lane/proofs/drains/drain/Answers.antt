@@ -10,14 +10,15 @@ entries-preserved g c = (
   (
     c.entries.invariant.0.0 + 1,
     lower _ _ _ _ c.entries.invariant.0.1 (c.in-Done.ensures.lowers refl),
-    one_more (Handles g.D.Disk.fault_count g.G.Gateway.asked g.G.Gateway.said g.G.Gateway.faults c.args.today)
+    one_more (Handles g.D.Disk.told.fault_count g.G.Gateway.told c.args.today)
         (lane_work c.args.today) c.args.lane.now c.entries.lane c.handle.new.lane c.entries.invariant.0.0
         c.entries.invariant.0.2 c.in-Done.ensures.handled,
   ),
-  well_then g.D.Disk.honest g.D.Disk.moment g.D.Disk.left_since c.args.lane.now.log c.entries.lane.log
+  well_then g.D.Disk.told.honest g.D.Disk.told.moment g.D.Disk.told.left_since c.args.lane.now.log
+      c.entries.lane.log
       c.handle.new.lane.log c.entries.invariant.1 c.handle.ensures.well c.entries.invariant.2.as_honest
       c.handle.ensures.itself.lanes c.handle.ensures.itself.lane,
-  itself_then g.D.Disk.honest g.D.Disk.fault_count c.args.lane.now c.entries.lane c.handle.new.lane
+  itself_then g.D.Disk.told.honest g.D.Disk.told.fault_count c.args.lane.now c.entries.lane c.handle.new.lane
       c.entries.invariant.2 c.handle.ensures.itself,
 )
   where
@@ -26,14 +27,15 @@ entries-preserved g c = (
 
 pub returns-in_default : goal.returns-in_default
 returns-in_default g c = record {
-  drained = ended (Handles g.D.Disk.fault_count g.G.Gateway.asked g.G.Gateway.said
-      g.G.Gateway.faults c.args.today)
+  drained = ended (Handles g.D.Disk.told.fault_count g.G.Gateway.told c.args.today)
       (lane_work c.args.today) c.args.lane.now c.entries.lane c.handle.new.lane c.handle.result
       c.entries.invariant.0.0 c.entries.invariant.0.1 c.entries.invariant.0.2 c.in_default.not-Done
       c.handle.ensures.handled;
-  well = well_then g.D.Disk.honest g.D.Disk.moment g.D.Disk.left_since c.args.lane.now.log c.entries.lane.log
+  well = well_then g.D.Disk.told.honest g.D.Disk.told.moment g.D.Disk.told.left_since c.args.lane.now.log
+      c.entries.lane.log
       c.handle.new.lane.log c.entries.invariant.1 c.handle.ensures.well c.entries.invariant.2.as_honest
       c.handle.ensures.itself.lanes c.handle.ensures.itself.lane;
-  itself = itself_then g.D.Disk.honest g.D.Disk.fault_count c.args.lane.now c.entries.lane c.handle.new.lane
+  itself = itself_then g.D.Disk.told.honest g.D.Disk.told.fault_count c.args.lane.now c.entries.lane
+      c.handle.new.lane
       c.entries.invariant.2 c.handle.ensures.itself;
 }

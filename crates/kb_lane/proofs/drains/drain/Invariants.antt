@@ -11,15 +11,15 @@ abbrev pub invariant-entries : goal.invariant-entries
 invariant-entries g l =
     ((handled : ℕ) × (handled + lane_work l.today l.lane ≤ lane_work l.today l.fn.lane)
     × ((more : ℕ) (new : LaneValue g.row.D.Denot g.row.G.Denot) (step : Step)
-    → EndsAfter (Handles g.D.Disk.fault_count g.G.Gateway.asked g.G.Gateway.said g.G.Gateway.faults l.today)
+    → EndsAfter (Handles g.D.Disk.told.fault_count g.G.Gateway.told l.today)
     more
     l.lane new step
     → (count : ℕ) × (count ≤ handled + more)
-    × EndsAfter (Handles g.D.Disk.fault_count g.G.Gateway.asked g.G.Gateway.said g.G.Gateway.faults l.today)
+    × EndsAfter (Handles g.D.Disk.told.fault_count g.G.Gateway.told l.today)
     count
     l.fn.lane new step))
-    × GoesWell g.D.Disk.honest g.D.Disk.moment g.D.Disk.left_since l.fn.lane.log l.lane.log
-    × StaysItself g.D.Disk.honest g.D.Disk.fault_count l.fn.lane l.lane
+    × GoesWell g.D.Disk.told.honest g.D.Disk.told.moment g.D.Disk.told.left_since l.fn.lane.log l.lane.log
+    × StaysItself g.D.Disk.told.honest g.D.Disk.told.fault_count l.fn.lane l.lane
 
 abbrev pub decreases-entries : goal.decreases-entries
 decreases-entries g l = lane_work l.today l.lane

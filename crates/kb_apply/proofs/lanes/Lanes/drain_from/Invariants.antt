@@ -6,17 +6,17 @@ use Rattle.kb_apply.proofs.lanes.Lanes.drain_from.Given as goal
 abbrev pub invariant-loop-place : goal.invariant-loop-place
 invariant-loop-place g l =
     ((new : LanesValue g.row.D.Denot g.row.G.Denot g.row.C.Denot)
-    → DrainFrom (outside_of g.D.Disk.honest g.D.Disk.moment g.D.Disk.left_since g.D.Disk.fault_count
-    g.G.Gateway.asked g.G.Gateway.said g.G.Gateway.faults g.C.Clock.day)
+    → DrainFrom (outside_of g.D.Disk.told
+    g.G.Gateway.told g.C.Clock.day)
     l.today l.place (l.last - l.place) l.self new
-    → DrainFrom (outside_of g.D.Disk.honest g.D.Disk.moment g.D.Disk.left_since g.D.Disk.fault_count
-    g.G.Gateway.asked g.G.Gateway.said g.G.Gateway.faults g.C.Clock.day)
+    → DrainFrom (outside_of g.D.Disk.told
+    g.G.Gateway.told g.C.Clock.day)
     l.today l.first l.count l.initial.self new)
     × ((new : LanesValue g.row.D.Denot g.row.G.Denot g.row.C.Denot)
-    → DrainPart (outside_of g.D.Disk.honest g.D.Disk.moment g.D.Disk.left_since g.D.Disk.fault_count
-    g.G.Gateway.asked g.G.Gateway.said g.G.Gateway.faults g.C.Clock.day)
+    → DrainPart (outside_of g.D.Disk.told
+    g.G.Gateway.told g.C.Clock.day)
     l.today l.place (l.last - l.place) l.self new
-    → DrainPart (outside_of g.D.Disk.honest g.D.Disk.moment g.D.Disk.left_since g.D.Disk.fault_count
-    g.G.Gateway.asked g.G.Gateway.said g.G.Gateway.faults g.C.Clock.day)
+    → DrainPart (outside_of g.D.Disk.told
+    g.G.Gateway.told g.C.Clock.day)
     l.today l.first l.count l.initial.self new)
     × (length l.self.lanes ≡ length l.initial.self.lanes)

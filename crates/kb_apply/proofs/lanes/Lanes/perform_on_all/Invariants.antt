@@ -7,10 +7,10 @@ use Rattle.kb_apply.proofs.lanes.Lanes.perform_on_all.Given as goal
 abbrev pub invariant-loop-place : goal.invariant-loop-place
 invariant-loop-place g l =
     ((new : LanesValue g.row.D.Denot g.row.G.Denot g.row.C.Denot) (reply : LaneReply)
-    → TextFrom (outside_of g.D.Disk.honest g.D.Disk.moment g.D.Disk.left_since g.D.Disk.fault_count
-    g.G.Gateway.asked g.G.Gateway.said g.G.Gateway.faults g.C.Clock.day)
+    → TextFrom (outside_of g.D.Disk.told
+    g.G.Gateway.told g.C.Clock.day)
     l.today l.command l.place (l.last - l.place) l.self new reply
-    → TextFrom (outside_of g.D.Disk.honest g.D.Disk.moment g.D.Disk.left_since g.D.Disk.fault_count
-    g.G.Gateway.asked g.G.Gateway.said g.G.Gateway.faults g.C.Clock.day)
+    → TextFrom (outside_of g.D.Disk.told
+    g.G.Gateway.told g.C.Clock.day)
     l.today l.command 0 l.last l.initial.self new reply)
     × (length l.self.lanes ≡ length l.initial.self.lanes)

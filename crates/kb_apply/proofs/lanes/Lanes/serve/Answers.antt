@@ -49,9 +49,8 @@ returns-in-Err-clause-err g c = (
     rw (← c.self.view_is) c.day_or_today-today.ensures,
     c.reply_to-spoken.ensures.served,
     c.in-Err.ensures.err.2,
-    part_ends (outside_of g.D.Disk.honest g.D.Disk.moment g.D.Disk.left_since g.D.Disk.fault_count
-        g.G.Gateway.asked
-        g.G.Gateway.said g.G.Gateway.faults g.C.Clock.day) c.day_or_today-today.result
+    part_ends (outside_of g.D.Disk.told
+        g.G.Gateway.told g.C.Clock.day) c.day_or_today-today.result
         (first_lane (length c.args.self.now.lanes) (account_on c.args.request.now.what))
         (lanes_on (length c.args.self.now.lanes) (account_on c.args.request.now.what))
         c.reply_to-spoken.new.self,

@@ -1,5 +1,4 @@
 use Rattle.std.proofs.Common.{inr, length, sym, ◌∙◌}
-use Rattle.kb_folder.specs.Folders.{told_of, words_of}
 use Rattle.kb_folder.proofs.Closing.{are_out}
 use Rattle.kb_billd.specs.Reports.{said_by}
 use Rattle.kb_billd.proofs.Reported.{printing_no_input, printing_output, reports_lanes}
@@ -7,10 +6,9 @@ use Rattle.kb_billd.proofs.command.report.report_folder.Goals as goal
 
 pub report_open-requires-clause-outside : goal.report_open-requires-clause-outside
 report_open-requires-clause-outside g c κs within = are_out
-    (words_of g.V.Disk.Disk.honest g.V.Disk.Disk.seen g.V.Disk.Disk.images g.V.Disk.Disk.fault_count)
-    c.args.folder.now (length c.in-Ok.lanes.items) (told_of g.V.Vault.is_out g.V.Vault.lane_bytes
-    g.V.Vault.file_bytes g.V.Vault.faults c.args.vault.now)
-    (told_of g.V.Vault.is_out g.V.Vault.lane_bytes g.V.Vault.file_bytes g.V.Vault.faults
+    g.V.Disk.Disk.told
+    c.args.folder.now (length c.in-Ok.lanes.items) (g.V.Vault.told c.args.vault.now)
+    (g.V.Vault.told
     c.open_lanes.new.vault)
     c.in-Ok.lanes.items c.in-Ok.ensures.opened
 
@@ -18,13 +16,12 @@ pub returns-in-Ok-clause-reported : goal.returns-in-Ok-clause-reported
 returns-in-Ok-clause-reported g c = inr (
   c.report_open.result,
   c.outcome_of.ensures,
-  reports_lanes (words_of g.V.Disk.Disk.honest g.V.Disk.Disk.seen g.V.Disk.Disk.images
-      g.V.Disk.Disk.fault_count)
+  reports_lanes g.V.Disk.Disk.told
       c.args.folder.now (said_by c.args.kind c.args.day)
-      (told_of g.V.Vault.is_out g.V.Vault.lane_bytes g.V.Vault.file_bytes g.V.Vault.faults c.args.vault.now)
-      (told_of g.V.Vault.is_out g.V.Vault.lane_bytes g.V.Vault.file_bytes g.V.Vault.faults
+      (g.V.Vault.told c.args.vault.now)
+      (g.V.Vault.told
       c.open_lanes.new.vault)
-      (told_of g.V.Vault.is_out g.V.Vault.lane_bytes g.V.Vault.file_bytes g.V.Vault.faults
+      (g.V.Vault.told
       c.report_open.new.vault)
       (g.O.Sink.written c.args.output.now) (g.O.Sink.written c.report_open.new.output) c.report_open.result
       c.in-Ok.lanes.items c.in-Ok.ensures.some c.in-Ok.ensures.few c.in-Ok.ensures.opened c.requires.inside

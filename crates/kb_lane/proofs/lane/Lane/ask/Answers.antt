@@ -1,6 +1,8 @@
 use Rattle.std.proofs.Common.{◌≡◌, refl, sym, ap, subst, ◌∙◌, ◌++◌, ◌∷◌, [], deque_items, drop, map, Some}
 use Rattle.std.proofs.Common.{None, Ok, Err}
 use Rattle.kb_codec.specs.declared.command.Command.TheVariants as kinds
+use Rattle.kb_gateway.specs.Told.{payments_asked}
+use Rattle.kb_gateway.proofs.Noted.{payments_noted}
 use Rattle.kb_machine.specs.Histories.{replay}
 use Rattle.kb_machine.specs.Plans.{changed, change_reply}
 use Rattle.kb_lane.specs.Asking.{asked_for}
@@ -22,9 +24,11 @@ invariant_of-self g c =
     c.requires.ordered in
     let front = sym (rw (← c.self.view_is) at c.requires.first) in
     let own = own_noted c.self.inside.own c.note.new.self c.args.account c.args.key c.note.ensures in
-    let kept = lane_asked g.G.Gateway.asked c.self.inside.machine _ c.self.invariant c.args.account
+    let kept = lane_asked (payments_asked g.G.Gateway.told) c.self.inside.machine _ c.self.invariant
+    c.args.account
     c.args.key _ _
-    c.ask-answer.new.self _ front c.pop_front.ensures.rest own (rw (← order) c.ask-answer.ensures.asked) in
+    c.ask-answer.new.self _ front c.pop_front.ensures.rest own
+    (rw (← order) (payments_noted _ _ c.args.order.now c.ask-answer.ensures.asked)) in
     kept
 
 pub returns-in_default-clause-asked : goal.returns-in_default-clause-asked
@@ -44,6 +48,8 @@ returns-in_default-clause-asked g c = rw (← c.self.view_is) (λ later front.
       heard = record {
         noted = c.ask-answer.ensures.asked;
         heard = c.ask-answer.ensures.said;
+        canceled = c.ask-answer.ensures.canceled;
+        same = c.ask-answer.ensures.same;
         cause = c.ask-answer.ensures.cause;
       };
       own = rw order (own_noted c.self.inside.own c.note.new.self c.args.account c.args.key c.note.ensures);
@@ -69,9 +75,11 @@ invariant_of-self-in-Ok g c =
     c.requires.ordered in
     let front = sym (rw (← c.self.view_is) at c.requires.first) in
     let own = own_noted c.self.inside.own c.note.new.self c.args.account c.args.key c.note.ensures in
-    let kept = lane_asked g.G.Gateway.asked c.self.inside.machine _ c.self.invariant c.args.account
+    let kept = lane_asked (payments_asked g.G.Gateway.told) c.self.inside.machine _ c.self.invariant
+    c.args.account
     c.args.key _ _
-    c.ask-answer.new.self _ front c.pop_front.ensures.rest own (rw (← order) c.ask-answer.ensures.asked) in
+    c.ask-answer.new.self _ front c.pop_front.ensures.rest own
+    (rw (← order) (payments_noted _ _ c.args.order.now c.ask-answer.ensures.asked)) in
     let is : settled_by c.args.account c.args.key c.ask-answer.result ≡ Some c.in-Some.settlement.command
     = chosen_command (machine_of c.args.self.now) c.args.today
     (settled_by c.args.account c.args.key c.ask-answer.result) c.in-Some.settlement
@@ -82,7 +90,7 @@ invariant_of-self-in-Ok g c =
     (c.in-Some.ensures (machine_of c.args.self.now) c.args.today c.args.account c.args.key
     c.requires.ready)) in
     let change = c.in-Some.settlement.change in
-    lane_grows g.G.Gateway.asked c.self.inside.machine _ c.write.new.log kept
+    lane_grows (payments_asked g.G.Gateway.told) c.self.inside.machine _ c.write.new.log kept
     c.in-Ok.ensures.same.0 c.args.today
     c.in-Some.settlement.command (change_reply change) (changed (replay c.self.inside.log.history) change) _ _
     ready.planned
@@ -94,7 +102,7 @@ invariant_of-self-in-Ok g c =
       account = c.args.account;
       payment = c.args.key;
       status = status;
-    }))) (sym c.pop_front.ensures.rest) (lane_frees g.G.Gateway.asked
+    }))) (sym c.pop_front.ensures.rest) (lane_frees (payments_asked g.G.Gateway.told)
     c.self.inside.machine _ c.self.invariant c.args.account c.args.key _ status front)))
     c.in-Ok.ensures.outcome.2
     (c.push_back_reserved.ensures.items ∙ ap (λ works. deque_items c.pop_front.new.self ++ works)
@@ -107,18 +115,21 @@ invariant_of-self-in-Err g c =
     c.requires.ordered in
     let front = sym (rw (← c.self.view_is) at c.requires.first) in
     let own = own_noted c.self.inside.own c.note.new.self c.args.account c.args.key c.note.ensures in
-    let kept = lane_asked g.G.Gateway.asked c.self.inside.machine _ c.self.invariant c.args.account
+    let kept = lane_asked (payments_asked g.G.Gateway.told) c.self.inside.machine _ c.self.invariant
+    c.args.account
     c.args.key _ _
-    c.ask-answer.new.self _ front c.pop_front.ensures.rest own (rw (← order) c.ask-answer.ensures.asked) in
-    let same = failed_history g.D.Disk.fault_count c.self.inside.log c.write.new.log
+    c.ask-answer.new.self _ front c.pop_front.ensures.rest own
+    (rw (← order) (payments_noted _ _ c.args.order.now c.ask-answer.ensures.asked)) in
+    let same = failed_history g.D.Disk.told.fault_count c.self.inside.log c.write.new.log
     (c.args.today, c.in-Some.settlement.command) _ c.in-Err.fault c.in-Err.ensures.outcome in
-    subst (λ machine. IsLane g.G.Gateway.asked machine (record {
+    subst (λ machine. IsLane (payments_asked g.G.Gateway.told) machine (record {
       log = c.write.new.log;
       outbox = deque_items c.pop_front.new.self;
       gateway = c.ask-answer.new.self;
       own = map asked_for c.note.new.self;
     })) (sym c.in-Err.ensures.unchanged)
-    (lane_stays g.G.Gateway.asked c.self.inside.machine _ c.write.new.log kept c.in-Err.ensures.same.0 same)
+    (lane_stays (payments_asked g.G.Gateway.told) c.self.inside.machine _ c.write.new.log kept
+    c.in-Err.ensures.same.0 same)
 
 pub returns-in-Ok-clause-asked : goal.returns-in-Ok-clause-asked
 returns-in-Ok-clause-asked g c = rw (← c.self.view_is) (λ later front.
@@ -137,6 +148,8 @@ returns-in-Ok-clause-asked g c = rw (← c.self.view_is) (λ later front.
       heard = record {
         noted = c.ask-answer.ensures.asked;
         heard = c.ask-answer.ensures.said;
+        canceled = c.ask-answer.ensures.canceled;
+        same = c.ask-answer.ensures.same;
         cause = c.ask-answer.ensures.cause;
       };
       own = rw order (own_noted c.self.inside.own c.note.new.self c.args.account c.args.key c.note.ensures);
@@ -156,9 +169,9 @@ returns-in-Ok-clause-asked g c = rw (← c.self.view_is) (λ later front.
 
 pub returns-in-Ok-clause-moments : goal.returns-in-Ok-clause-moments
 returns-in-Ok-clause-moments g c = rw (← c.self.view_is)
-    (λ entry written. appended_stands g.D.Disk.fault_count
-    c.self.inside.log c.write.new.log (c.args.today, c.in-Some.settlement.command) entry g.D.Disk.honest
-    g.D.Disk.moment g.D.Disk.left_since _ _ (Ok c.in-Ok.field-0) refl c.in-Ok.ensures.outcome
+    (λ entry written. appended_stands g.D.Disk.told.fault_count
+    c.self.inside.log c.write.new.log (c.args.today, c.in-Some.settlement.command) entry g.D.Disk.told.honest
+    g.D.Disk.told.moment g.D.Disk.told.left_since _ _ (Ok c.in-Ok.field-0) refl c.in-Ok.ensures.outcome
     c.in-Ok.ensures.moments written)
 
 pub returns-in-Err-clause-asked : goal.returns-in-Err-clause-asked
@@ -178,10 +191,13 @@ returns-in-Err-clause-asked g c = rw (c.stopped_by.ensures, ← c.self.view_is) 
       heard = record {
         noted = c.ask-answer.ensures.asked;
         heard = c.ask-answer.ensures.said;
+        canceled = c.ask-answer.ensures.canceled;
+        same = c.ask-answer.ensures.same;
         cause = c.ask-answer.ensures.cause;
       };
       own = rw order (own_noted c.self.inside.own c.note.new.self c.args.account c.args.key c.note.ensures);
-      settled = rw is (failed_writes g.D.Disk.fault_count _ _ (c.args.today, c.in-Some.settlement.command)
+      settled = rw is (failed_writes g.D.Disk.told.fault_count _ _
+          (c.args.today, c.in-Some.settlement.command)
           c.in-Err.fault c.in-Err.ensures.outcome
           (c.pop_front.ensures.rest ∙ ap (λ before. drop 1 before) front));
       ready = fault_ready c.in-Err.fault;
@@ -189,7 +205,7 @@ returns-in-Err-clause-asked g c = rw (c.stopped_by.ensures, ← c.self.view_is) 
 
 pub returns-in-Err-clause-moments : goal.returns-in-Err-clause-moments
 returns-in-Err-clause-moments g c = rw (← c.self.view_is)
-    (λ entry written. appended_stands g.D.Disk.fault_count
-    c.self.inside.log c.write.new.log (c.args.today, c.in-Some.settlement.command) entry g.D.Disk.honest
-    g.D.Disk.moment g.D.Disk.left_since _ _ (Err c.in-Err.fault) refl c.in-Err.ensures.outcome
+    (λ entry written. appended_stands g.D.Disk.told.fault_count
+    c.self.inside.log c.write.new.log (c.args.today, c.in-Some.settlement.command) entry g.D.Disk.told.honest
+    g.D.Disk.told.moment g.D.Disk.told.left_since _ _ (Err c.in-Err.fault) refl c.in-Err.ensures.outcome
     c.in-Err.ensures.moments written)

@@ -4,7 +4,7 @@ use Rattle.kb_lane.proofs.lane.Lane.handle_next.Goals as goal
 
 pub returns-clause-lowers : goal.returns-clause-lowers
 returns-clause-lowers g c =
-    front_takes_work g.D.Disk.fault_count g.G.Gateway.asked g.G.Gateway.said g.G.Gateway.faults
+    front_takes_work g.D.Disk.told.fault_count g.G.Gateway.told
     c.args.self.now
     c.handle.new.self c.args.today c.is_within.ensures.last c.is_within.ensures.few c.in-Some.work
     (drop 1 c.args.self.now.outbox) c.handle.result (sym c.in-Some.ensures) c.handle.ensures.looks

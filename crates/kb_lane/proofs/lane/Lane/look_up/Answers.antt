@@ -34,8 +34,7 @@ returns-in-Some-clause-looked g c =
     let present = c.status_of-present.ensures found.0 found.1 in
     let told : news found.0.status c.look_up-answer.result ≡ Some c.in-Some.status
     = ap (λ before. news before c.look_up-answer.result) (sym present) ∙ sym c.in-Some.ensures in
-    rw (← c.self.view_is) (looks_looked g.D.Disk.fault_count g.G.Gateway.asked g.G.Gateway.said
-    g.G.Gateway.faults
+    rw (← c.self.view_is) (looks_looked g.D.Disk.told.fault_count g.G.Gateway.told
     c.args.today _ c.settle.new.self c.args.payment c.settle.result (record {
       running = sym c.is_stopped.ensures ∙ c.if-is_stopped.false;
       order = c.order_of-order.result;
@@ -48,10 +47,13 @@ returns-in-Some-clause-looked g c =
       heard = rw c.settle.ensures.gateway (record {
         silent = c.look_up-answer.ensures.asked;
         heard = c.look_up-answer.ensures.said;
+        unseen = c.look_up-answer.ensures.unseen;
+        same = c.look_up-answer.ensures.same;
         cause = c.look_up-answer.ensures.cause;
       });
       own = c.settle.ensures.own;
-      settled = rw told (writes_from g.D.Disk.fault_count _ _ c.settle.new.self _ c.settle.result refl refl
+      settled = rw told (writes_from g.D.Disk.told.fault_count _ _ c.settle.new.self _ c.settle.result refl
+          refl
           c.settle.ensures.writes);
     }))
 
@@ -69,7 +71,7 @@ returns-in-Some-clause-others g c =
       gateway = c.look_up-answer.new.self;
       own = map asked_for c.self.inside.own;
     }) c.settle.new.self c.args.today c.args.payment
-    c.in-Some.status (done_takes g.D.Disk.fault_count _ c.settle.new.self _ c.settle.result
+    c.in-Some.status (done_takes g.D.Disk.told.fault_count _ c.settle.new.self _ c.settle.result
     c.settle.ensures.writes
     done) new one other)
 
@@ -80,7 +82,8 @@ returns-in-Some-clause-asks g c = rw (← c.self.view_is) (λ done. asks_stay (r
   gateway = c.look_up-answer.new.self;
   own = map asked_for c.self.inside.own;
 }) c.settle.new.self c.args.today
-    c.args.payment c.in-Some.status (done_takes g.D.Disk.fault_count _ c.settle.new.self _ c.settle.result
+    c.args.payment c.in-Some.status
+    (done_takes g.D.Disk.told.fault_count _ c.settle.new.self _ c.settle.result
     c.settle.ensures.writes done))
 
 pub returns-in-None-clause-looked : goal.returns-in-None-clause-looked
@@ -101,6 +104,8 @@ returns-in-None-clause-looked g c =
       heard = (record {
         silent = c.look_up-answer.ensures.asked;
         heard = c.look_up-answer.ensures.said;
+        unseen = c.look_up-answer.ensures.unseen;
+        same = c.look_up-answer.ensures.same;
         cause = c.look_up-answer.ensures.cause;
       });
       own = refl;
@@ -121,13 +126,14 @@ returns-in-Some-clause-runs g c = c.settle.ensures.runs
 
 pub returns-in-None-clause-past : goal.returns-in-None-clause-past
 returns-in-None-clause-past g c = rw (← c.self.view_is)
-    (λ done. past_none g.D.Disk.honest g.D.Disk.moment g.D.Disk.left_since c.self.inside.log
+    (λ done. past_none g.D.Disk.told.honest g.D.Disk.told.moment g.D.Disk.told.left_since c.self.inside.log
     c.self.inside.log refl)
 
 pub returns-in-None-clause-within : goal.returns-in-None-clause-within
 returns-in-None-clause-within g c = rw (← c.self.view_is)
-    (within_past g.D.Disk.honest g.D.Disk.moment g.D.Disk.left_since
-    c.self.inside.log c.self.inside.log (past_none g.D.Disk.honest g.D.Disk.moment g.D.Disk.left_since
+    (within_past g.D.Disk.told.honest g.D.Disk.told.moment g.D.Disk.told.left_since
+    c.self.inside.log c.self.inside.log
+    (past_none g.D.Disk.told.honest g.D.Disk.told.moment g.D.Disk.told.left_since
     c.self.inside.log
     c.self.inside.log refl))
 

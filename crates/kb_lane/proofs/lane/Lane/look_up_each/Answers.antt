@@ -15,8 +15,7 @@ look_up-requires-clause-opened g c =
 pub loop-payment-preserved : goal.loop-payment-preserved
 loop-payment-preserved g c = (
   λ new step later. c.loop-payment.invariant.0 new step
-      (each_then (Looked g.D.Disk.fault_count g.G.Gateway.asked g.G.Gateway.said
-      g.G.Gateway.faults c.args.today)
+      (each_then (Looked g.D.Disk.told.fault_count g.G.Gateway.told c.args.today)
       c.loop-payment.self c.look_up.new.self c.args.payments.now c.loop-payment.payment-index
       c.payment-item.result
       c.loop-payment-test.true c.payment-item.is c.in-Done.ensures.looked new step later),
@@ -27,12 +26,13 @@ loop-payment-preserved g c = (
   c.in-Done.ensures.asks refl ∙ c.loop-payment.invariant.2,
   c.in-Done.ensures.silent ∙ c.loop-payment.invariant.3,
   c.in-Done.ensures.own ∙ c.loop-payment.invariant.4,
-  itself_then g.D.Disk.honest g.D.Disk.fault_count c.args.self.now c.loop-payment.self c.look_up.new.self
+  itself_then g.D.Disk.told.honest g.D.Disk.told.fault_count c.args.self.now c.loop-payment.self
+      c.look_up.new.self
       c.loop-payment.invariant.5 c.in-Done.ensures.itself,
-  well_then g.D.Disk.honest g.D.Disk.moment g.D.Disk.left_since c.args.self.now.log c.loop-payment.self.log
-      c.look_up.new.self.log c.loop-payment.invariant.6 (looked_well g.D.Disk.honest g.D.Disk.moment
-      g.D.Disk.left_since g.D.Disk.fault_count g.G.Gateway.asked g.G.Gateway.said
-      g.G.Gateway.faults c.args.today
+  well_then g.D.Disk.told.honest g.D.Disk.told.moment g.D.Disk.told.left_since c.args.self.now.log
+      c.loop-payment.self.log
+      c.look_up.new.self.log c.loop-payment.invariant.6 (looked_well g.D.Disk.told.honest g.D.Disk.told.moment
+      g.D.Disk.told.left_since g.D.Disk.told.fault_count g.G.Gateway.told c.args.today
       c.loop-payment.self c.look_up.new.self c.payment-item.result c.in-Done.ensures.further
       c.in-Done.ensures.within
       steps.Done c.in-Done.ensures.looked c.in-Done.ensures.past)
@@ -43,23 +43,22 @@ pub returns-in_default : goal.returns-in_default
 returns-in_default g c = record {
   busy = c.look_up.ensures.busy;
   looked = c.loop-payment.invariant.0 c.look_up.new.self c.look_up.result (each_ends
-      (Looked g.D.Disk.fault_count g.G.Gateway.asked g.G.Gateway.said g.G.Gateway.faults c.args.today)
+      (Looked g.D.Disk.told.fault_count g.G.Gateway.told c.args.today)
       c.loop-payment.self c.look_up.new.self c.args.payments.now c.loop-payment.payment-index
       c.payment-item.result
       c.loop-payment-test.true c.payment-item.is c.look_up.result c.in_default.not-Done
       c.look_up.ensures.looked);
   silent = c.look_up.ensures.silent ∙ c.loop-payment.invariant.3;
   own = c.look_up.ensures.own ∙ c.loop-payment.invariant.4;
-  well = well_then g.D.Disk.honest g.D.Disk.moment g.D.Disk.left_since c.args.self.now.log
+  well = well_then g.D.Disk.told.honest g.D.Disk.told.moment g.D.Disk.told.left_since c.args.self.now.log
       c.loop-payment.self.log
-      c.look_up.new.self.log c.loop-payment.invariant.6 (looked_well g.D.Disk.honest g.D.Disk.moment
-      g.D.Disk.left_since g.D.Disk.fault_count g.G.Gateway.asked g.G.Gateway.said
-      g.G.Gateway.faults c.args.today
+      c.look_up.new.self.log c.loop-payment.invariant.6 (looked_well g.D.Disk.told.honest g.D.Disk.told.moment
+      g.D.Disk.told.left_since g.D.Disk.told.fault_count g.G.Gateway.told c.args.today
       c.loop-payment.self c.look_up.new.self c.payment-item.result c.look_up.ensures.further
       c.look_up.ensures.within
       c.look_up.result c.look_up.ensures.looked c.look_up.ensures.past)
       c.loop-payment.invariant.5.as_honest c.look_up.ensures.itself.lanes c.look_up.ensures.itself.lane;
-  itself = itself_then g.D.Disk.honest g.D.Disk.fault_count c.args.self.now c.loop-payment.self
+  itself = itself_then g.D.Disk.told.honest g.D.Disk.told.fault_count c.args.self.now c.loop-payment.self
       c.look_up.new.self
       c.loop-payment.invariant.5 c.look_up.ensures.itself;
 }

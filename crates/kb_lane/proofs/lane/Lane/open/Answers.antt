@@ -1,4 +1,5 @@
 use Rattle.std.proofs.Common.{ap, ◌∙◌}
+use Rattle.kb_gateway.specs.Told.{payments_asked}
 use Rattle.kb_book.specs.declared.reply.LaneReply.TheVariants as replies
 use Rattle.kb_machine.specs.Histories.{replay}
 use Rattle.kb_machine.specs.Machines.{with_book}
@@ -7,7 +8,7 @@ use Rattle.kb_lane.proofs.lane.Lane.open.Goals as goal
 
 pub invariant_of-self-in-Ok-append : goal.invariant_of-self-in-Ok-append
 invariant_of-self-in-Ok-append g c =
-    lane_grows g.G.Gateway.asked c.self.inside.machine _ c.append.new.self c.self.invariant
+    lane_grows (payments_asked g.G.Gateway.told) c.self.inside.machine _ c.append.new.self c.self.invariant
     c.in-Ok-append.ensures.same.0 c.args.today c.args.command.now (replies.Accepted c.args.opened.answer)
     (with_book (replay c.self.inside.log.history) c.args.opened.account c.args.opened.book) _ _
     (rw (← c.self.view_is) at c.requires.planned)

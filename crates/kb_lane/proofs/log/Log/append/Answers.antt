@@ -11,8 +11,10 @@ invariant_of-self-in-Err-DiskFault g c =
     c.self.inside.journal.count c.append.result c.append.ensures.stopped
     (fault_isnt_stopped c.append.result c.self.inside.journal.count is) in (
       c.self.invariant.0,
-      rw c.note-in-Err-DiskFault.ensures (marked_log g.D.Disk.honest g.D.Disk.seen g.D.Disk.images
-          g.D.Disk.fault_count g.D.Disk.moment g.D.Disk.left_since g.met.D.Disk.counts_now (record {
+      rw c.note-in-Err-DiskFault.ensures
+          (marked_log g.D.Disk.told.honest g.D.Disk.told.seen g.D.Disk.told.images
+          g.D.Disk.told.fault_count g.D.Disk.told.moment g.D.Disk.told.left_since g.met.D.Disk.counts_now
+          (record {
             journal = c.self.inside.journal;
             history = c.self.inside.history;
             failed = c.self.inside.failed;
