@@ -4,14 +4,13 @@ use Rattle.std.proofs.Common.{◌∙◌}
 use Rattle.std.specs.Option.{is_none, unwrap_or}
 use Rattle.std.specs.List.{find}
 use Rattle.kb_disk.specs.Places.{is_place}
-use Rattle.kb_disk.specs.VaultMemory.{LaneValue, VaultValue, is_out}
+use Rattle.kb_disk.specs.VaultMemory.{LaneValue, VaultValue, empty_file, is_out}
 use Rattle.tests_lanes.specs.Insides.{AllInside}
 
 module _ (folder : List ℕ) (lane : ℕ) where
   -- whether the lane is out, by the file that is found
   abbrev is_out_of : Option LaneValue → Bool
-  is_out_of file = is_none
-      ((unwrap_or file (record { folder = folder; lane = lane; bytes = Some []; failing = [] })).bytes)
+  is_out_of file = is_none ((unwrap_or file (empty_file folder lane)).bytes)
 
   -- the file of the lane comes first, or another one does
   in-first : (same : Bool) (file : LaneValue) (bytes : List ℕ) (rest : Option LaneValue)

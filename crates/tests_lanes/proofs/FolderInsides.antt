@@ -2,7 +2,7 @@
 use Rattle.std.proofs.Common.{◌≡◌, ℕ, Bool, true, false, cond, List, [], ◌∷◌, Some, None, refl}
 use Rattle.std.specs.Option.{is_none, unwrap_or}
 use Rattle.kb_disk.specs.Places.{is_place}
-use Rattle.kb_disk.specs.VaultMemory.{LaneValue, is_out}
+use Rattle.kb_disk.specs.VaultMemory.{LaneValue, empty_file, is_out}
 
 -- no lane is out of two files that have bytes
 pub two_inside : (one other : LaneValue) (folder : List ℕ) (lane : ℕ) → is_none one.bytes ≡ false
@@ -12,7 +12,7 @@ two_inside one other folder lane first second =
   where
     by_test : (here there : Bool)
         → is_none ((unwrap_or (cond here (Some one) (cond there (Some other) None))
-        (record { folder = folder; lane = lane; bytes = Some []; failing = [] })).bytes) ≡ false
+        (empty_file folder lane)).bytes) ≡ false
     by_test true there = first
     by_test false true = second
     by_test false false = refl

@@ -14,13 +14,13 @@ pub fn passed<V: Vault, M: Market>(
     vault: &mut V,
     market: &mut M,
 ) -> Result<usize, Unopened>
-    requires inside { (lane : ℕ) → V.is_out vault.old (codes "shop") lane ≡ false }
-    ensures inside { (lane : ℕ) → V.is_out vault.new (codes "shop") lane ≡ false }
+    requires inside { (lane : ℕ) → (V.told vault.old).is_out (codes "shop") lane ≡ false }
+    ensures inside { (lane : ℕ) → (V.told vault.new).is_out (codes "shop") lane ≡ false }
 {
     match open_lanes(alloc, vault, market, "shop", "gate") {
         Ok(lanes) => {
             let count = lanes.len();
-            put_back(vault, "shop", lanes);
+            put_back(vault, market, "shop", lanes);
             Ok(count)
         }
         Err(fault) => Err(fault),
@@ -30,8 +30,8 @@ pub fn passed<V: Vault, M: Market>(
 /// Makes this lane of two in the folder shop.
 pub fn make<V: Vault>(alloc: Global, vault: &mut V, lane: u16) -> Result<(), Fail>
     requires one_of_them { lane < 2 }
-    requires inside { (lane : ℕ) → V.is_out vault.old (codes "shop") lane ≡ false }
-    ensures inside { (lane : ℕ) → V.is_out vault.new (codes "shop") lane ≡ false }
+    requires inside { (lane : ℕ) → (V.told vault.old).is_out (codes "shop") lane ≡ false }
+    ensures inside { (lane : ℕ) → (V.told vault.new).is_out (codes "shop") lane ≡ false }
 {
     match vault.lane(alloc, "shop", lane as u32) {
         Ok(disk) => {

@@ -1,10 +1,11 @@
 //! What lanes do by themselves: payments that are asked for, and how they are settled.
 
 use crate::compare::same;
-use crate::lane::lanes::{TestLane, asked_in, count_of, drained, with_gateway};
+use crate::lane::lanes::{TestLane, count_of, drained, with_gateway};
 use crate::lane::rows::hold_lines;
 use kb_book::Step;
 use kb_gateway::Told;
+use kb_payment::Kind;
 use kb_samples::day;
 use std::alloc::Global;
 use std::process::Abort;
@@ -68,7 +69,7 @@ fn payments_that_are_asked_for(rt: HostRuntime) -> Result<(), Fail> {
     Ok(())
 }
 
-/// Holds a row. The gateway is asked once, whatever it answers.
+/// Holds a row. The gateway is asked once, for all that is charged, whatever it answers.
 fn hold_drain(rt: &impl Abort, alloc: Global, row: &Drain) -> Result<(), Fail> {
     let (told, failing, ..) = *row;
     let mut lane = with_gateway(alloc, told, &[], failing)?;
@@ -95,6 +96,14 @@ fn hold_drained(
 }
 
 fn hold_asked(rt: &impl Abort, lane: TestLane, row: &Drain) -> Result<(), Fail> {
-    same(rt, &asked_in(lane), &Some(1), &row.4);
+    let (_, gateway) = lane.into_parts();
+    let asked = gateway.asked().ok_or("what was asked")?;
+    let order = asked.first().ok_or("an order")?;
+    same(
+        rt,
+        &(asked.len(), order.kind, order.amount),
+        &(1, Kind::Purchase, 500),
+        &row.4,
+    );
     Ok(())
 }

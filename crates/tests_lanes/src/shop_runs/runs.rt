@@ -84,8 +84,8 @@ fn call<I: Source, O: Sink, V: Vault, M: Market, C: Clock + Drop>(
     market: &mut M,
     clock: C,
 ) -> u8
-    requires inside { (folder : List ℕ) (lane : ℕ) → V.is_out vault.old folder lane ≡ false }
-    ensures inside { (folder : List ℕ) (lane : ℕ) → V.is_out vault.new folder lane ≡ false }
+    requires inside { (folder : List ℕ) (lane : ℕ) → (V.told vault.old).is_out folder lane ≡ false }
+    ensures inside { (folder : List ℕ) (lane : ℕ) → (V.told vault.new).is_out folder lane ≡ false }
 {
     billd(alloc, words, input, output, vault, market, clock)
 }

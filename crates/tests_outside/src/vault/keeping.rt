@@ -8,7 +8,7 @@ use std::test::Fail;
 /// Writes 7 and 8 into lane 3 of the folder shop, gives it back and takes it out again: how many of three
 /// bytes are read then, and the bytes.
 pub fn kept_by<V: Vault>(vault: &mut V, alloc: Global) -> Result<(usize, [u8; 3]), Fail>
-    requires { V.is_out vault.old (codes "shop") 3 ≡ false }
+    requires { (V.told vault.old).is_out (codes "shop") 3 ≡ false }
 {
     let mut disk = vault.lane(alloc, "shop", 3)?;
     disk.write_at(0, &[7, 8])?;
