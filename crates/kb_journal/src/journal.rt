@@ -23,7 +23,7 @@ ghost use Rattle.kb_disk.specs.Images.{Only};
 ghost use Rattle.kb_disk.specs.Moments.{AtEachMoment};
 ghost use Rattle.kb_journal.specs.declared.fault.AppendFault.TheVariants.{Stopped, Full, DiskFault};
 ghost use Rattle.kb_journal.specs.Beginnings.{HasOrBegins};
-ghost use Rattle.kb_journal.specs.Format.{IsSized, IsWithOrWithout};
+ghost use Rattle.kb_journal.specs.Format.{IsSized, IsWithOrWithout, body};
 ghost use Rattle.kb_journal.specs.Keeping.{Holds, IsFull, RefusesToCreate, RefusesToLoad, TellsPlace};
 ghost use Rattle.kb_journal.specs.Reading.{IsNoJournal};
 ghost use Rattle.kb_journal.specs.Unwritten.{IsUnwritten};
@@ -153,6 +153,8 @@ impl<D: Disk> Journal<D> {
           count = length loaded.1;
           stopped = false;
         }) }
+        ensures placed { IfOk result
+            (λ loaded. loaded.0.gate ≡ length (body loaded.0.lanes lane loaded.1)) }
         ensures some_lanes { IfOk result (λ loaded. 1 ≤ loaded.0.lanes) }
         ensures few_lanes { IfOk result (λ loaded. loaded.0.lanes ≤ 64) }
         ensures refused { IfErr result (λ refused.
