@@ -16,6 +16,7 @@ mod Pairs
 mod Payloads
 mod Places
 pub mod Rest
+pub mod Rooms
 pub mod SaidReplies
 pub mod Settled
 mod Settling

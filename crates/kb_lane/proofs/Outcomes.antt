@@ -1,9 +1,9 @@
 -- What an answer of a journal tells of the journal as it was.
-use Rattle.std.proofs.Common.{◌≡◌, ℕ, Bool, true, false, Result, Err, IsErrOf, ◌↔◌, refl}
+use Rattle.std.proofs.Common.{◌≡◌, ℕ, Bool, true, false, Result, Ok, Err, IsErrOf, ◌↔◌, refl}
 use Rattle.kb_journal.specs.declared.fault.AppendFault.{AppendFault}
 use Rattle.kb_journal.specs.declared.fault.AppendFault.TheVariants.{Stopped, Full, DiskFault}
 
-not_true : (b : Bool) → (b ≡ true → ⊥) → b ≡ false
+pub not_true : (b : Bool) → (b ≡ true → ⊥) → b ≡ false
 not_true true not = absurd (not refl)
 not_true false not = refl
 
@@ -29,3 +29,7 @@ pub fault_isnt_full : {A : Type 0} (result : Result A AppendFault) (commands byt
     → result ≡ Err DiskFault
     → IsErrOf result (Full commands bytes) → ⊥
 fault_isnt_full result commands bytes is told = cc
+
+pub done_isnt : {A : Type 0} (result : Result A AppendFault) (number : A) (fault : AppendFault)
+    → result ≡ Ok number → IsErrOf result fault → ⊥
+done_isnt result number fault is told = cc

@@ -10,13 +10,12 @@ use Rattle.kb_ports.specs.Notes.{Notes}
 use Rattle.kb_gateway.specs.Answers.{asked_of, said_of_ask}
 use Rattle.kb_gateway.specs.Told.{GatewayTold}
 use Rattle.kb_codec.specs.declared.command.Command.{Command}
-use Rattle.kb_journal.specs.Keeping.{IsFull}
 use Rattle.kb_book.specs.Books.{BookValue}
 use Rattle.kb_book.specs.NextDues.{next_due}
 use Rattle.kb_book.specs.declared.step.Step.{Step}
 use Rattle.kb_book.specs.declared.step.Step.TheVariants as steps
 use Rattle.kb_codec.specs.Entries.{Entry, payload}
-use Rattle.kb_lane.specs.Logs.{LogValue}
+use Rattle.kb_lane.specs.Logs.{LogValue, IsTooFullFor, written_size}
 use Rattle.kb_machine.specs.Machines.{MachineValue, book_of}
 use Rattle.kb_lane.specs.declared.work.Work.{Work}
 use Rattle.kb_lane.specs.Orders.{order_of, settled_by}
@@ -48,8 +47,8 @@ Writes fault_count old new entry steps.DiskFault = IsMarked fault_count old new 
 Writes fault_count old new entry (steps.Stopped count) = (old.log.journal.stopped ≡ true)
     × (count ≡ length old.log.history) × IsLeft old new
 Writes fault_count old new entry (steps.Full commands size) = (old.log.journal.stopped ≡ false)
-    × IsFull old.log.journal (length (payload entry)) × (commands ≡ length old.log.history)
-    × (size ≡ old.log.journal.gate + 1) × IsLeft old new
+    × IsTooFullFor old.log (length (payload entry)) × (commands ≡ length old.log.history)
+    × (size ≡ written_size old.log + 1) × IsLeft old new
 Writes fault_count old new entry steps.NoMemory = IsLeft old new
 
 -- An entry stays at the front until its step is done.

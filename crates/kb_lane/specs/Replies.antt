@@ -4,9 +4,8 @@ use Rattle.kb_base.specs.Faults.{Rose}
 use Rattle.kb_book.specs.declared.reply.LaneReply.{LaneReply}
 use Rattle.kb_book.specs.declared.reply.LaneReply.TheVariants as replies
 use Rattle.kb_codec.specs.Entries.{Entry, payload}
-use Rattle.kb_lane.specs.Logs.{MayAppend}
+use Rattle.kb_lane.specs.Logs.{MayAppend, IsTooFullFor, written_size}
 use Rattle.kb_machine.specs.Judged.{Judged, is_new}
-use Rattle.kb_journal.specs.Keeping.{IsFull}
 use Rattle.kb_codec.specs.declared.command.Command.{Command}
 use Rattle.kb_machine.specs.Machines.{MachineValue, judged, reply_of}
 use Rattle.kb_lane.specs.Lanes.{LaneValue, machine_of}
@@ -71,7 +70,7 @@ pub record Performs {D G : Type 0} (fault_count : D → ℕ) (old new : LaneValu
   pub stopped : (count : ℕ) → reply ≡ replies.Stopped count
       → (old.log.journal.stopped ≡ true) × (count ≡ length old.log.history)
   pub full : (commands size : ℕ) → reply ≡ replies.Full commands size → (old.log.journal.stopped ≡ false)
-      × IsFull old.log.journal (length (payload (today, command)))
-      × (commands ≡ length old.log.history) × (size ≡ old.log.journal.gate + 1)
+      × IsTooFullFor old.log (length (payload (today, command)))
+      × (commands ≡ length old.log.history) × (size ≡ written_size old.log + 1)
   pub gateway : new.gateway ≡ old.gateway
   pub own : new.own ≡ old.own

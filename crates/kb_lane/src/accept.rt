@@ -4,8 +4,7 @@ ghost use Rattle.std.specs.Prelude.{IfOk, IfErr, OnOk, OnErr, None};
 ghost use Rattle.std.specs.Option.{option_to_list};
 ghost use Rattle.std.specs.VecDeque.{deque_items, deque_len, deque_capacity};
 ghost use Rattle.kb_codec.specs.Entries.{payload};
-ghost use Rattle.kb_lane.specs.Logs.{MayAppend};
-ghost use Rattle.kb_journal.specs.Keeping.{IsFull};
+ghost use Rattle.kb_lane.specs.Logs.{MayAppend, IsTooFullFor, written_size};
 ghost use Rattle.kb_book.specs.declared.refusal.Refusal.{Refusal};
 ghost use Rattle.kb_book.specs.declared.reply.LaneReply.TheVariants as replies;
 ghost use Rattle.kb_machine.specs.Judged.{New, is_new};
@@ -208,8 +207,8 @@ impl<D: Disk, G: Gateway + Drop> Lane<D, G> {
             → (self.old.log.journal.stopped ≡ true) × (count ≡ length self.old.log.history) }
         ensures full { (commands size : ℕ) → result ≡ replies.Full commands size
             → (self.old.log.journal.stopped ≡ false)
-            × IsFull self.old.log.journal (length (payload (today, command.now)))
-            × (commands ≡ length self.old.log.history) × (size ≡ self.old.log.journal.gate + 1) }
+            × IsTooFullFor self.old.log (length (payload (today, command.now)))
+            × (commands ≡ length self.old.log.history) × (size ≡ written_size self.old.log + 1) }
         ensures moments { is_new (judged (machine_of self.old) today command.now) ≡ true
             → (result ≡ replies.NoMemory → ⊥)
             → StandsThroughout D.told.honest D.told.moment D.told.left_since self.old.log self.new.log
@@ -244,8 +243,8 @@ impl<D: Disk, G: Gateway + Drop> Lane<D, G> {
             → (self.old.log.journal.stopped ≡ true) × (count ≡ length self.old.log.history) }
         ensures full { (commands size : ℕ) → result ≡ replies.Full commands size
             → (self.old.log.journal.stopped ≡ false)
-            × IsFull self.old.log.journal (length (payload (today, command.now)))
-            × (commands ≡ length self.old.log.history) × (size ≡ self.old.log.journal.gate + 1) }
+            × IsTooFullFor self.old.log (length (payload (today, command.now)))
+            × (commands ≡ length self.old.log.history) × (size ≡ written_size self.old.log + 1) }
         ensures moments { is_new (judged (machine_of self.old) today command.now) ≡ true
             → (result ≡ replies.NoMemory → ⊥)
             → StandsThroughout D.told.honest D.told.moment D.told.left_since self.old.log self.new.log

@@ -7,7 +7,7 @@ ghost use Rattle.kb_codec.specs.Entries.{payloads};
 ghost use Rattle.kb_gateway.specs.Told.{payments_asked};
 ghost use Rattle.kb_lane.specs.Logs.{KeepsAll, StandsForLog};
 ghost use Rattle.kb_machine.specs.Machines.{book_of};
-ghost use Rattle.kb_lane.specs.Asking.{WasAskedOnce};
+ghost use Rattle.kb_lane.specs.Asking.{HaveAttempts, WasAskedOnce};
 ghost use Rattle.kb_lane.specs.Lanes.{machine_of, opened_of};
 
 use crate::log::Log;
@@ -114,11 +114,11 @@ impl<D: Disk, G: Gateway + Drop> Lane<D, G> {
     }
 
     /// The disk and the gateway, as they are. The bytes of an honest disk stand for the history, and a crash
-    /// leaves no other ones; or, if an
-    /// append has failed, for that or for it and the command whose append failed, and the disk's count of
-    /// failed calls has risen since the lane was opened. If the gateway tells what it was asked, it was
-    /// asked for no payment twice, provided that before the lane was opened it was asked once each, for
-    /// attempts that the lane had then.
+    /// leaves no other ones, and no call of the disk has failed since the lane was opened; or, if an append
+    /// has failed, they stand for that or for it and the command whose append failed, and the disk's count of
+    /// failed calls has risen since then. If the gateway tells what it was asked, it was asked for no payment
+    /// twice, provided that before the lane was opened it was asked once each, for attempts that the lane had
+    /// then. Each payment that the lane asked for since it was opened has an attempt.
     pub fn into_parts(self) -> (D, G)
         ensures disk { result.0 ≡ self.log.journal.disk }
         ensures gateway { result.1 ≡ self.gateway }
@@ -128,7 +128,10 @@ impl<D: Disk, G: Gateway + Drop> Lane<D, G> {
             → KeepsAll D.told.images self.log }
         ensures caused { self.log.journal.stopped ≡ true
             → Rose self.log.faults (D.told.fault_count self.log.journal.disk) }
+        ensures calm { self.log.journal.stopped ≡ false
+            → D.told.fault_count self.log.journal.disk ≡ self.log.faults }
         ensures once { WasAskedOnce (opened_of self) (payments_asked G.told self.gateway) self.own }
+        ensures attempts { HaveAttempts (machine_of self) self.own }
     {
         let Lane {
             machine: _machine,

@@ -1,7 +1,7 @@
 //! Lanes that are loaded.
 ghost use Rattle.std.specs.Prelude.{◌≡◌, ◌≤◌, [], false, length, IsTrue, IfOk, IfErr};
 ghost use Rattle.kb_journal.specs.Keeping.{Holds};
-ghost use Rattle.kb_journal.specs.Format.{StandsFor};
+ghost use Rattle.kb_journal.specs.Format.{StandsFor, body};
 ghost use Rattle.kb_journal.specs.Unwritten.{IsUnwritten};
 ghost use Rattle.kb_codec.specs.Entries.{payloads};
 ghost use Rattle.kb_machine.specs.Machines.{no_machine};
@@ -72,6 +72,7 @@ impl<D: Disk, G: Gateway + Drop> Lane<D, G> {
     ) -> Lane<D, G>
         requires running { journal.stopped ≡ false }
         requires counted { journal.count ≡ length past }
+        requires measured { journal.gate ≡ length (body journal.lanes journal.lane (payloads past)) }
         requires count { count ≡ length past }
         requires held { IsTrue (D.told.honest journal.disk)
             → Holds D.told.honest D.told.seen D.told.images journal (payloads past) }

@@ -3,7 +3,7 @@ ghost use Rattle.std.specs.Prelude.{◌+◌, ◌^◌, ◌<◌, ◌≡◌, ◌≤
 ghost use Rattle.std.specs.Prelude.{IsTrue, IfOk, IfErr, OnOk};
 ghost use Rattle.kb_base.specs.Faults.{Rose};
 ghost use Rattle.kb_disk.specs.Moments.{AtEachMoment};
-ghost use Rattle.kb_journal.specs.Format.{IsSized, IsWithOrWithout};
+ghost use Rattle.kb_journal.specs.Format.{IsSized, IsWithOrWithout, body};
 ghost use Rattle.kb_journal.specs.Keeping.{Holds, RefusesToCreate};
 ghost use Rattle.kb_codec.specs.Entries.{payload, payloads};
 ghost use Rattle.kb_lane.specs.Logs.{Appends, KeepsAll, StandsForLog};
@@ -81,6 +81,7 @@ impl<D: Disk> Log<D> {
     pub fn opened(journal: Journal<D>, history: History<Day, Command>, count: u64) -> Log<D>
         requires running { journal.stopped ≡ false }
         requires counted { journal.count ≡ length history }
+        requires measured { journal.gate ≡ length (body journal.lanes journal.lane (payloads history)) }
         requires count { count ≡ length history }
         requires held { IsTrue (D.told.honest journal.disk) → Holds D.told.honest D.told.seen D.told.images
             journal
@@ -121,8 +122,8 @@ impl<D: Disk> Log<D> {
         self.journal.lanes()
     }
 
-    /// The disk as it is. If an append has failed, its count of failed calls has risen since the log was
-    /// opened.
+    /// The disk as it is. Its count of failed calls has risen since the log was opened if an append has
+    /// failed, and stands still otherwise.
     pub fn into_disk(self) -> D
         ensures disk { result ≡ self.journal.disk }
         ensures stands { IsTrue (D.told.honest self.journal.disk) → StandsForLog self
@@ -131,6 +132,7 @@ impl<D: Disk> Log<D> {
             → KeepsAll D.told.images self }
         ensures caused { self.journal.stopped ≡ true → Rose self.faults
             (D.told.fault_count self.journal.disk) }
+        ensures calm { self.journal.stopped ≡ false → D.told.fault_count self.journal.disk ≡ self.faults }
     {
         self.journal.into_disk()
     }

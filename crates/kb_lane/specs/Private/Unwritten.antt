@@ -1,12 +1,11 @@
 -- Why a new command isn't taken in, and what that leaves.
 use Rattle.std.specs.Prelude.{ℕ, ◌≡◌, ◌+◌, true, false, [], ◌∷◌, length, Result, Ok, Err, ⊤}
 use Rattle.kb_base.specs.Faults.{Rose}
-use Rattle.kb_journal.specs.Keeping.{IsFull}
 use Rattle.kb_journal.specs.declared.fault.AppendFault.TheVariants.{Stopped, Full, DiskFault}
 use Rattle.kb_book.specs.declared.reply.LaneReply.{LaneReply}
 use Rattle.kb_book.specs.declared.reply.LaneReply.TheVariants as replies
 use Rattle.kb_codec.specs.Entries.{Entry}
-use Rattle.kb_lane.specs.Logs.{MayAppend}
+use Rattle.kb_lane.specs.Logs.{MayAppend, IsTooFullFor, written_size}
 use Rattle.kb_lane.specs.Lanes.{LaneValue}
 use Rattle.kb_lane.specs.declared.accept.Unwritten.{Unwritten}
 use Rattle.kb_lane.specs.declared.accept.Unwritten.TheVariants.{NoMemory, Append}
@@ -19,7 +18,7 @@ IsUnwritten fault_count old new entry size NoMemory = new ≡ old
 IsUnwritten fault_count old new entry size (Append (Stopped count)) = (old.log.journal.stopped ≡ true)
     × (count ≡ length old.log.history) × (new ≡ old)
 IsUnwritten fault_count old new entry size (Append (Full commands bytes)) = (old.log.journal.stopped ≡ false)
-    × IsFull old.log.journal size × (commands ≡ length old.log.history) × (bytes ≡ old.log.journal.gate + 1)
+    × IsTooFullFor old.log size × (commands ≡ length old.log.history) × (bytes ≡ written_size old.log + 1)
     × (new ≡ old)
 IsUnwritten fault_count old new entry size (Append DiskFault) = MayAppend old.log size
     × (new.log.journal.stopped ≡ true) × (new.log.history ≡ old.log.history) × (new.log.failed ≡ entry ∷ [])

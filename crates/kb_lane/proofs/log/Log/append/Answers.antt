@@ -1,8 +1,36 @@
-use Rattle.std.proofs.Common.{◌≡◌, false, refl, ap, ◌∙◌, ◌+◌, [], ◌∷◌, ◌++◌, Err}
+use Rattle.std.proofs.Common.{◌≡◌, false, refl, ap, ◌∙◌, ◌+◌, [], ◌∷◌, ◌++◌, length, Err, arith, length-append}
 use Rattle.kb_journal.specs.declared.fault.AppendFault.TheVariants.{Stopped, Full, DiskFault}
-use Rattle.kb_lane.proofs.Marks.{marked_log}
-use Rattle.kb_lane.proofs.Outcomes.{running, roomy, fault_isnt_stopped, fault_isnt_full}
+use Rattle.kb_lane.proofs.Marks.{grown_log, marked_log}
+use Rattle.kb_lane.proofs.Outcomes.{not_true, running, roomy, done_isnt, fault_isnt_stopped, fault_isnt_full}
+use Rattle.kb_lane.proofs.Rooms.{full_journal, no_room}
 use Rattle.kb_lane.proofs.log.Log.append.Goals as goal
+
+pub invariant_of-self : goal.invariant_of-self
+invariant_of-self g c =
+    let runs : c.self.inside.journal.stopped ≡ false = running c.self.inside.journal.stopped
+    c.self.inside.journal.count c.append.result c.append.ensures.stopped
+    (done_isnt c.append.result c.in-Ok.number (Stopped c.self.inside.journal.count) c.in-Ok.is) in
+    let still : c.append.new.self.stopped ≡ false = not_true c.append.new.self.stopped
+    (λ now. done_isnt c.append.result c.in-Ok.number DiskFault c.in-Ok.is ((c.append.ensures.stops runs).0 now)) in
+    rw c.note.ensures (
+      omega (
+        arith,
+        c.in-Ok.ensures.number,
+        c.self.invariant.1.counted,
+        length-append c.self.inside.history ((c.args.today, c.args.command.now) ∷ []),
+      ),
+      grown_log g.D.Disk.told.honest g.D.Disk.told.seen g.D.Disk.told.images g.D.Disk.told.fault_count
+          (record {
+            journal = c.self.inside.journal;
+            history = c.self.inside.history;
+            failed = c.self.inside.failed;
+            opened = c.self.inside.opened;
+            faults = c.self.inside.faults;
+          }) c.append.new.self (c.args.today, c.args.command.now) c.args.bytes.now c.self.invariant.1
+          c.requires.payload runs still c.in-Ok.ensures.counted c.in-Ok.ensures.placed c.append.ensures.same.0
+          c.append.ensures.same.1 c.append.ensures.honesty c.in-Ok.ensures.calm
+          (λ records holds. rw c.in-Ok.is at c.append.ensures.acknowledged records holds),
+    )
 
 pub invariant_of-self-in-Err-DiskFault : goal.invariant_of-self-in-Err-DiskFault
 invariant_of-self-in-Err-DiskFault g c =
@@ -51,10 +79,18 @@ returns-in-Err-DiskFault-clause-outcome g c =
     rw (← c.self.view_is) (
       (
         runs,
-        roomy c.self.inside.journal.stopped c.self.inside.journal.count (c.self.inside.journal.gate + 1)
+        λ none.
+            roomy c.self.inside.journal.stopped c.self.inside.journal.count (c.self.inside.journal.gate + 1)
             c.append.result c.append.ensures.full
             (fault_isnt_full c.append.result c.self.inside.journal.count (c.self.inside.journal.gate + 1) is)
-            runs,
+            runs
+            (full_journal (record {
+              journal = c.self.inside.journal;
+              history = c.self.inside.history;
+              failed = c.self.inside.failed;
+              opened = c.self.inside.opened;
+              faults = c.self.inside.faults;
+            }) (length c.args.bytes.now) c.self.invariant.1.counted (c.self.invariant.1.measured runs) none),
       ),
       (c.append.ensures.stops runs).1 is,
       refl,
@@ -78,4 +114,20 @@ returns-in-Err-Full-clause-outcome g c =
     c.in-Err-Full.is ∙ ap Err c.in-Err-Full.field-0-is in
     let told = (c.append.ensures.full c.in-Err-Full.commands c.in-Err-Full.size).0 is in
     let still = c.append.ensures.unfilled told.1 in
-    rw (← c.self.view_is) (told.0, told.1, told.2 ∙ c.self.invariant.1.counted, told.3, rw still refl)
+    let measured = c.self.invariant.1.measured told.0 in
+    rw (← c.self.view_is) (
+      told.0,
+      (
+        c.requires.sized.few,
+        no_room (record {
+          journal = c.self.inside.journal;
+          history = c.self.inside.history;
+          failed = c.self.inside.failed;
+          opened = c.self.inside.opened;
+          faults = c.self.inside.faults;
+        }) (length c.args.bytes.now) c.self.invariant.1.counted measured told.1,
+      ),
+      told.2 ∙ c.self.invariant.1.counted,
+      told.3 ∙ ap (λ gate. gate + 1) measured,
+      rw still refl,
+    )

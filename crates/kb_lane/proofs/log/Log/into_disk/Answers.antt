@@ -9,6 +9,9 @@ returns-clause-stands g c = rw (← c.self.view_is)
 pub returns-clause-caused : goal.returns-clause-caused
 returns-clause-caused g c = rw (← c.self.view_is) c.self.invariant.1.caused
 
+pub returns-clause-calm : goal.returns-clause-calm
+returns-clause-calm g c = rw (← c.self.view_is) c.self.invariant.1.calm
+
 pub returns-clause-durable : goal.returns-clause-durable
 returns-clause-durable g c = λ honest running.
     held_all c.args.self ((rw c.self.view_is at c.self.invariant.1).held running honest)
