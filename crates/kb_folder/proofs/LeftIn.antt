@@ -6,12 +6,15 @@ use Rattle.kb_disk.specs.Places.{with_lane, SameLanes, SameFiles}
 use Rattle.kb_disk.specs.Told.{DiskTold, VaultTold}
 use Rattle.kb_journal.specs.Format.{StandsFor}
 use Rattle.kb_journal.specs.Reading.{number_at}
-use Rattle.kb_codec.specs.Entries.{payloads}
+use Rattle.kb_codec.specs.Entries.{History, payloads}
+use Rattle.kb_machine.specs.Machines.{no_machine}
+use Rattle.kb_machine.specs.Histories.{AreNewFrom}
 use Rattle.kb_lane.specs.Lanes.{LaneValue}
 use Rattle.kb_lane.specs.Loads.{IsNoLane}
 use Rattle.kb_folder.specs.declared.unopened.Unopened.{Unopened}
 use Rattle.kb_folder.specs.declared.unopened.Unopened.TheVariants as faults
-use Rattle.kb_folder.specs.OneLane.{ComesBackWhole, TakesOut, TakesBack, IsLeftIn, IsLaneCause, IsRefused}
+use Rattle.kb_folder.specs.OneLane.{ComesBackWhole, TakesOut, TakesBack, IsLeftIn, IsLaneCause, IsLaneOf}
+use Rattle.kb_folder.specs.OneLane.{IsRefused}
 use Rattle.kb_folder.specs.Private.Unmade.{IsGivenBack, IsUnmade}
 use Rattle.kb_folder.proofs.Amongs.{told_again, told_over, told_same}
 use Rattle.kb_folder.proofs.GivenBack.{given_back, reads_them}
@@ -21,6 +24,14 @@ pub tells_lanes : (lanes lane : ℕ) (records : List (List ℕ)) (bytes : List �
     → StandsFor lanes lane records bytes → number_at 8 bytes ≡ lanes
 tells_lanes lanes lane records bytes few stands =
     ap (λ (l : List ℕ). number_at 8 l) stands.parts ∙ from_be_bytes-to_be_bytes_2 lanes (omega (arith, few))
+
+-- so they are the lane of as many as they tell
+lane_as_told : (lanes lane : ℕ) (history : History) (bytes : List ℕ) → lanes ≤ 64
+    → StandsFor lanes lane (payloads history) bytes → AreNewFrom no_machine history
+    → IsLaneOf (number_at 8 bytes) lane bytes
+lane_as_told lanes lane history bytes few stands fresh =
+    subst (λ (l : ℕ). IsLaneOf l lane bytes) (sym (tells_lanes lanes lane (payloads history) bytes few stands))
+    (history, stands, fresh)
 
 module _ {D V : Type 0} (disks : DiskTold D) (tell : V → VaultTold D) (folder : List ℕ) (number : ℕ)
     (old mid new : V)
@@ -111,11 +122,13 @@ module _ {D G V : Type 0} (disks : DiskTold D) (tell : V → VaultTold D) (folde
 
   other : (wanted : ℕ) (told : Option (List ℕ)) → count ≤ 64 → (count ≡ wanted → ⊥)
       → IfSome told (StandsFor count number (payloads lane.log.history))
-      → IfSome told (λ bytes. IsNoLane number bytes 8 ⊎ (◌≡◌ {A = ℕ} 8 8 × (number_at 8 bytes ≢ wanted)))
+      → IfSome told (λ bytes. IsNoLane number bytes 8
+      ⊎ (◌≡◌ {A = ℕ} 8 8 × (number_at 8 bytes ≢ wanted) × IsLaneOf (number_at 8 bytes) number bytes))
   other wanted None few differs stands = tt
   other wanted (Some bytes) few differs stands = inr (
     refl,
     λ same. differs (sym (tells_lanes count number (payloads lane.log.history) bytes few stands) ∙ same),
+    lane_as_told count number lane.log.history bytes few stands takes.opened.fresh,
   )
 
   -- it is as one of another number of lanes

@@ -1,6 +1,7 @@
 mod Accepted
 mod Added
 mod AsBefore
+mod ComeBack
 mod Opened
 mod Outcomes
 mod Places

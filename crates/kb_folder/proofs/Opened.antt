@@ -16,6 +16,7 @@ use Rattle.kb_folder.specs.declared.unopened.Unopened.{Unopened}
 use Rattle.kb_folder.specs.declared.unopened.Unopened.TheVariants as faults
 use Rattle.kb_folder.specs.Folders.{with_lanes}
 use Rattle.kb_folder.specs.OneLane.{ComesBackWhole, IsOpened, TellsNoOther, TakesOut, IsLeftIn, IsLaneCause}
+use Rattle.kb_folder.specs.OneLane.{IsLaneOf}
 use Rattle.kb_folder.specs.Openings.{AreOpened, TellsOtherLanes, IsCause, IsLaneBeside, IsFirstOfThem}
 use Rattle.kb_folder.specs.Private.AllLanes.{AddsLane, HasStopped}
 use Rattle.kb_folder.proofs.Amongs.{apart, not_among, not_among_fewer, not_place, one_place, told_at, told_before}
@@ -200,12 +201,15 @@ module _ {D G : Type 0} (disks : DiskTold D) (folder : List ℕ) (count : ℕ) (
 
   told_lanes : (first told : Option (List ℕ)) (number at : ℕ)
       → IfSome first (λ bytes. number_at 8 bytes ≡ count)
-      → IfSome told (λ bytes. IsNoLane number bytes at ⊎ ((at ≡ 8) × (number_at 8 bytes ≢ count)))
-      → IfSome told (λ bytes. IsNoLane number bytes at ⊎ ((at ≡ 8) × TellsOtherLanes first bytes))
+      → IfSome told (λ bytes. IsNoLane number bytes at
+      ⊎ ((at ≡ 8) × (number_at 8 bytes ≢ count) × IsLaneOf (number_at 8 bytes) number bytes))
+      → IfSome told (λ bytes. IsNoLane number bytes at
+      ⊎ ((at ≡ 8) × TellsOtherLanes first bytes × IsLaneOf (number_at 8 bytes) number bytes))
   told_lanes first None number at is shows = tt
   told_lanes first (Some bytes) number at is (inl shows) = inl shows
-  told_lanes None (Some bytes) number at is (inr shows) = inr (shows.0, tt)
-  told_lanes (Some first) (Some bytes) number at is (inr shows) = inr (shows.0, λ same. shows.1 (same ∙ is))
+  told_lanes None (Some bytes) number at is (inr shows) = inr (shows.0, tt, shows.2)
+  told_lanes (Some first) (Some bytes) number at is (inr shows) =
+      inr (shows.0, (λ same. shows.1 (same ∙ is)), shows.2)
 
   -- its cause is the cause of all
   pub cause_of_next : (market_old market_mid market_new : ℕ) (fault : Unopened) → market_mid ≡ market_old
@@ -219,12 +223,14 @@ module _ {D G : Type 0} (disks : DiskTold D) (folder : List ℕ) (count : ℕ) (
       (cause.0 ∙ so_far.calm, cause.1 ∙ market)
   cause_of_next market_old market_mid market_new (faults.Journal lane at) market first cause = (
     subst
-        (λ (l : ℕ). IfSome (old.lane_bytes folder l) (λ bytes.
-        IsNoLane l bytes at ⊎ ((at ≡ 8) × TellsOtherLanes (old.lane_bytes folder 0) bytes))) (sym cause.0)
+        (λ (l : ℕ). IfSome (old.lane_bytes folder l) (λ bytes. IsNoLane l bytes at
+        ⊎ ((at ≡ 8) × TellsOtherLanes (old.lane_bytes folder 0) bytes
+        × IsLaneOf (number_at 8 bytes) l bytes))) (sym cause.0)
         (told_lanes (old.lane_bytes folder 0) (old.lane_bytes folder (length lanes)) (length lanes) at first
         (subst
-        (λ (b : Option (List ℕ)). IfSome b (λ bytes.
-        IsNoLane (length lanes) bytes at ⊎ ((at ≡ 8) × (number_at 8 bytes ≢ count)))) next_bytes cause.1)),
+        (λ (b : Option (List ℕ)). IfSome b (λ bytes. IsNoLane (length lanes) bytes at
+        ⊎ ((at ≡ 8) × (number_at 8 bytes ≢ count)
+        × IsLaneOf (number_at 8 bytes) (length lanes) bytes))) next_bytes cause.1)),
     cause.2 ∙ so_far.calm,
     cause.3 ∙ market,
   )

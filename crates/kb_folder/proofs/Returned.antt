@@ -8,10 +8,10 @@ use Rattle.kb_disk.specs.Places.{SameLanes}
 use Rattle.kb_disk.specs.Told.{DiskTold, VaultTold}
 use Rattle.kb_lane.specs.Logs.{KeepsAll, StandsForLog}
 use Rattle.kb_gateway.specs.declared.order.Asked.{Asked}
-use Rattle.kb_lane.specs.Asking.{WasAskedOnce}
-use Rattle.kb_lane.specs.Lanes.{LaneValue, opened_of}
+use Rattle.kb_lane.specs.Asking.{HaveAttempts, WasAskedOnce}
+use Rattle.kb_lane.specs.Lanes.{LaneValue, machine_of, opened_of}
 use Rattle.kb_folder.specs.Folders.{with_lanes}
-use Rattle.kb_folder.specs.Openings.{AreBack, AskedOnceEach}
+use Rattle.kb_folder.specs.Openings.{AreBack, AskedOnceEach, HaveAttemptsEach}
 use Rattle.kb_folder.specs.OneLane.{TakesBack}
 use Rattle.kb_folder.proofs.Amongs.{not_among, not_among_fewer, not_place, apart, told_before}
 use Rattle.kb_folder.proofs.Amongs.{told_elsewhere, told_more}
@@ -29,6 +29,7 @@ none_back {D = D} {G = G} disks folder old lanes none =
       stand = λ place lane is. absurd (cc);
       others = λ this_folder this not_there. refl;
       durable = λ place lane is. absurd (cc);
+      quiet = λ place lane is. absurd (cc);
       noted = λ place lane is. absurd (cc);
       others_back = λ this_folder this not_there. refl;
       files = λ name. refl;
@@ -59,7 +60,9 @@ module _ {D G : Type 0} (disks : DiskTold D) (folder : List ℕ) (old mid new : 
       → StandsForLog lane.log (disks.seen lane.log.journal.disk))
       (caused : lane.log.journal.stopped ≡ true → 0 < disks.fault_count lane.log.journal.disk)
       (durable : IsTrue (disks.honest lane.log.journal.disk) → lane.log.journal.stopped ≡ false
-      → KeepsAll disks.images lane.log) where
+      → KeepsAll disks.images lane.log)
+      (quiet : lane.log.journal.stopped ≡ false
+      → disks.fault_count lane.log.journal.disk ≡ lane.log.faults) where
     -- an earlier lane has the bytes that it had
     earlier : (place : ℕ) → place < length lanes → new.lane_bytes folder place ≡ mid.lane_bytes folder place
     earlier place less = takes.others folder place
@@ -128,6 +131,14 @@ module _ {D G : Type 0} (disks : DiskTold D) (folder : List ℕ) (old mid new : 
         subst (λ (l : LaneValue D G). IsTrue (disks.honest l.log.journal.disk) → l.log.journal.stopped ≡ false
         → KeepsAll disks.images l.log) same durable
 
+    quiet_at : (place : ℕ) (item : LaneValue D G)
+        → (slice_get lanes place ≡ Some item) ⊎ ((place ≡ length lanes) × (lane ≡ item))
+        → item.log.journal.stopped ≡ false → disks.fault_count item.log.journal.disk ≡ item.log.faults
+    quiet_at place item (inl there) = so_far.quiet place item there
+    quiet_at place item (inr (end, same)) =
+        subst (λ (l : LaneValue D G). l.log.journal.stopped ≡ false
+        → disks.fault_count l.log.journal.disk ≡ l.log.faults) same quiet
+
     noted_at : (place : ℕ) (item : LaneValue D G)
         → (slice_get lanes place ≡ Some item) ⊎ ((place ≡ length lanes) × (lane ≡ item))
         → Notes (old.came_back folder place) item.log.journal.disk (new.came_back folder place)
@@ -168,6 +179,7 @@ module _ {D G : Type 0} (disks : DiskTold D) (folder : List ℕ) (old mid new : 
           (omega (arith, longer))
           not_there);
       durable = λ place item is. durable_at place item (at_snoc lanes lane place item is);
+      quiet = λ place item is. quiet_at place item (at_snoc lanes lane place item is);
       noted = λ place item is. noted_at place item (at_snoc lanes lane place item is);
       others_back = λ this_folder this not_there.
           let longer = length_snoc lanes lane in
@@ -201,3 +213,13 @@ asked_more asked lanes lane so_far once place item is = by_place (at_snoc lanes 
     by_place (inl there) = so_far place item there
     by_place (inr (end, same)) =
         subst (λ (l : LaneValue _ _). WasAskedOnce (opened_of l) (asked l.gateway) l.own) same once
+
+-- the payments that a lane more asked for have attempts
+pub attempts_more : {D G : Type 0} (lanes : List (LaneValue D G)) (lane : LaneValue D G)
+    → HaveAttemptsEach lanes → HaveAttempts (machine_of lane) lane.own → HaveAttemptsEach (lanes ++ lane ∷ [])
+attempts_more lanes lane so_far there place item is = by_place (at_snoc lanes lane place item is)
+  where
+    by_place : (slice_get lanes place ≡ Some item) ⊎ ((place ≡ length lanes) × (lane ≡ item))
+        → HaveAttempts (machine_of item) item.own
+    by_place (inl before) = so_far place item before
+    by_place (inr (end, same)) = subst (λ (l : LaneValue _ _). HaveAttempts (machine_of l) l.own) same there

@@ -13,7 +13,7 @@ use Rattle.kb_lane.specs.Loads.{IsNoLane, RefusesLane}
 use Rattle.kb_folder.specs.declared.unopened.Unopened.{Unopened}
 use Rattle.kb_folder.specs.declared.unopened.Unopened.TheVariants as faults
 use Rattle.kb_folder.specs.Private.Faults.{unloaded_by}
-use Rattle.kb_folder.specs.OneLane.{KeepsBytes, TakesBack, IsLaneCause}
+use Rattle.kb_folder.specs.OneLane.{KeepsBytes, TakesBack, IsLaneCause, IsLaneOf}
 use Rattle.kb_folder.specs.Private.Unmade.{IsUnloaded, IsUnloadedBy, IsUnmade}
 use Rattle.kb_folder.proofs.GivenBack.{read_again, given_back}
 
@@ -43,20 +43,20 @@ unharmed_now disks (Some bytes) disk unmoved law opens = λ image left.
     opens.synced image (law disk image
     (subst (λ (time : ℕ). disks.left_since disk time image) (sym unmoved) left))
 
-module _ {D : Type 0} (disks : DiskTold D) (count number : ℕ) (told : Option (List ℕ)) (opened returned : D)
+module _ {D : Type 0} (disks : DiskTold D) (number : ℕ) (told : Option (List ℕ)) (opened returned : D)
     (fresh : disks.fault_count opened ≡ 0) where
   -- the bytes show it
   shown : (at : ℕ) (told : Option (List ℕ)) → IfSome told (Opens disks.honest disks.seen disks.images opened)
       → (IsTrue (disks.honest opened) → IsNoLane number (disks.seen opened) at
       × (disks.seen returned ≡ disks.seen opened))
-      → IfSome told (λ bytes. IsNoLane number bytes at ⊎ ((at ≡ 8) × (number_at 8 bytes ≢ count)))
+      → IfSome told (λ bytes. IsNoLane number bytes at)
   shown at None opens refuses = tt
   shown at (Some bytes) opens refuses =
-      inl (subst (λ (b : List ℕ). IsNoLane number b at) opens.read (refuses opens.true_to_them).0)
+      subst (λ (b : List ℕ). IsNoLane number b at) opens.read (refuses opens.true_to_them).0
 
   by_fault : (fault : LoadFault) → IfSome told (Opens disks.honest disks.seen disks.images opened)
       → RefusesLane disks.honest disks.seen disks.fault_count number opened fault returned
-      → IsUnloadedBy count number told (unloaded_by number fault) (disks.fault_count returned)
+      → IsUnloadedBy number told (unloaded_by number fault) (disks.fault_count returned)
   by_fault (NotAJournal at) opens refuses = (refl, shown at told opens refuses.0, refuses.1 ∙ fresh)
   by_fault DiskFault opens refuses = rose_some (disks.fault_count opened) (disks.fault_count returned) refuses
   by_fault NoMemory opens refuses = refuses.1 ∙ fresh
@@ -75,7 +75,7 @@ module _ {D : Type 0} (disks : DiskTold D) (count number : ℕ) (told : Option (
       → ((disk : D) → IsTrue (disks.honest disk) → disks.images disk (disks.seen disk))
       → disks.moment opened ≡ 0
       → IsUnwritten disks.honest disks.images disks.moment disks.left_since disks.fault_count opened returned
-      → IsUnloaded disks count number told (unloaded_by number fault) returned
+      → IsUnloaded disks number told (unloaded_by number fault) returned
   unloaded fault opens refuses law unmoved unwritten = (
     same_bytes told opens law unwritten.as_honest unwritten.no_other,
     unharmed_by disks told opened returned unmoved opens unwritten,
@@ -85,14 +85,22 @@ module _ {D : Type 0} (disks : DiskTold D) (count number : ℕ) (told : Option (
 -- so it leaves the lane in the vault as it was
 pub unmade : {D : Type 0} (disks : DiskTold D) (folder : List ℕ) (count number : ℕ) (old new : VaultTold D)
     (told : Option (List ℕ)) (disk : D) (market : ℕ) (fault : Unopened)
-    → TakesBack disks folder number old new disk → IsUnloaded disks count number told fault disk
+    → TakesBack disks folder number old new disk → IsUnloaded disks number told fault disk
     → IsUnmade disks folder count number told old new market market fault
 unmade disks folder count number old new told disk market fault takes refuses =
     (given_back disks folder number old new disk told takes refuses.0 refuses.1, by_fault fault refuses.2)
   where
-    by_fault : (fault : Unopened) → IsUnloadedBy count number told fault (disks.fault_count disk)
+    -- it is one of form
+    of_form : (at : ℕ) (told : Option (List ℕ)) → IfSome told (λ bytes. IsNoLane number bytes at)
+        → IfSome told (λ bytes. IsNoLane number bytes at
+        ⊎ ((at ≡ 8) × (number_at 8 bytes ≢ count) × IsLaneOf (number_at 8 bytes) number bytes))
+    of_form at None shows = tt
+    of_form at (Some bytes) shows = inl shows
+
+    by_fault : (fault : Unopened) → IsUnloadedBy number told fault (disks.fault_count disk)
         → IsLaneCause count number told old.faults new.faults market market fault
     by_fault faults.Disk refuses = (takes.risen refuses, refl)
     by_fault faults.NoMemory refuses = (takes.calm refuses, refl)
-    by_fault (faults.Journal lane at) refuses = (refuses.0, refuses.1, takes.calm refuses.2, refl)
+    by_fault (faults.Journal lane at) refuses =
+        (refuses.0, of_form at told refuses.1, takes.calm refuses.2, refl)
     by_fault faults.Market refuses = absurd refuses

@@ -105,7 +105,7 @@ pub record IsLeft (old new : Option (List ℕ)) : Type 0 where
   pub same : WhereTold old new (λ before after. after ≡ before)
 
 -- of all lanes but the first so many of a folder the same is told
-abbrev pub SameFrom : List ℕ → ℕ → Bytes → Bytes → Type 0
+abbrev pub SameFrom : {A : Type 0} → List ℕ → ℕ → (List ℕ → ℕ → A) → (List ℕ → ℕ → A) → Type 0
 SameFrom folder count old new = (this_folder : List ℕ) (this : ℕ)
     → is_among folder count this_folder this ≡ false
     → new this_folder this ≡ old this_folder this

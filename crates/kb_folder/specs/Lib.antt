@@ -1,3 +1,4 @@
+pub mod Begun
 pub mod Folders
 pub mod Foundings
 pub mod OneLane

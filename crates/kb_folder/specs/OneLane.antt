@@ -10,7 +10,7 @@ use Rattle.kb_disk.specs.Told.{DiskTold, VaultTold}
 use Rattle.kb_gateway.specs.Told.{GatewayTold, IsUnasked, MarketTold}
 use Rattle.kb_journal.specs.Format.{StandsFor}
 use Rattle.kb_journal.specs.Reading.{number_at}
-use Rattle.kb_codec.specs.Entries.{payloads}
+use Rattle.kb_codec.specs.Entries.{History, payloads}
 use Rattle.kb_machine.specs.Machines.{no_machine}
 use Rattle.kb_machine.specs.Histories.{AreNewFrom}
 use Rattle.kb_lane.specs.Lanes.{LaneValue}
@@ -112,13 +112,21 @@ pub record IsLeftIn {D : Type 0} (disks : DiskTold D) (folder : List ℕ) (numbe
   pub files : SameFiles new.file_bytes old.file_bytes
   pub rising : old.faults ≤ new.faults
 
--- why the lane of this number, of so many and with these bytes, isn't opened
+-- the bytes are those of the lane of a number, of so many: they stand for commands, each new to those
+-- before it
+abbrev pub IsLaneOf : ℕ → ℕ → List ℕ → Type 0
+IsLaneOf count number bytes = (history : History) × StandsFor count number (payloads history) bytes
+    × AreNewFrom no_machine history
+
+-- Why the lane of this number, of so many and with these bytes, isn't opened. A fault of their form is told
+-- before another number of lanes: this is told only of bytes that are otherwise a lane of this number.
 abbrev pub IsLaneCause : ℕ → ℕ → Option (List ℕ) → ℕ → ℕ → ℕ → ℕ → Unopened → Type 0
 IsLaneCause count number told old new market_old market_new Disk = Rose old new × (market_new ≡ market_old)
 IsLaneCause count number told old new market_old market_new NoMemory = (new ≡ old) × (market_new ≡ market_old)
 IsLaneCause count number told old new market_old market_new (Journal lane at) =
     (lane ≡ number)
-    × IfSome told (λ bytes. IsNoLane number bytes at ⊎ ((at ≡ 8) × (number_at 8 bytes ≢ count)))
+    × IfSome told (λ bytes. IsNoLane number bytes at
+    ⊎ ((at ≡ 8) × (number_at 8 bytes ≢ count) × IsLaneOf (number_at 8 bytes) number bytes))
     × (new ≡ old) × (market_new ≡ market_old)
 IsLaneCause count number told old new market_old market_new Market = (new ≡ old) × Rose market_old market_new
 

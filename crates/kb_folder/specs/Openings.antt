@@ -5,21 +5,17 @@ use Rattle.kb_base.specs.Faults.{Rose}
 use Rattle.kb_ports.specs.Notes.{Notes}
 use Rattle.kb_disk.specs.Places.{is_among, SameLanes, SameFiles}
 use Rattle.kb_disk.specs.Told.{DiskTold, VaultTold}
-use Rattle.kb_journal.specs.Format.{StandsFor}
 use Rattle.kb_journal.specs.Reading.{number_at}
 use Rattle.kb_gateway.specs.declared.order.Asked.{Asked}
 use Rattle.kb_gateway.specs.Told.{GatewayTold, IsUnasked, MarketTold}
-use Rattle.kb_codec.specs.Entries.{History, payloads}
 use Rattle.kb_lane.specs.Logs.{KeepsAll, StandsForLog}
-use Rattle.kb_machine.specs.Machines.{no_machine}
-use Rattle.kb_machine.specs.Histories.{AreNewFrom}
-use Rattle.kb_lane.specs.Asking.{WasAskedOnce}
-use Rattle.kb_lane.specs.Lanes.{LaneValue, opened_of}
+use Rattle.kb_lane.specs.Asking.{HaveAttempts, WasAskedOnce}
+use Rattle.kb_lane.specs.Lanes.{LaneValue, machine_of, opened_of}
 use Rattle.kb_lane.specs.Loads.{IsNoLane}
 use Rattle.kb_folder.specs.declared.unopened.Unopened.{Unopened}
 use Rattle.kb_folder.specs.declared.unopened.Unopened.TheVariants.{Disk, NoMemory, Journal, Market}
 use Rattle.kb_folder.specs.Folders.{with_lanes}
-use Rattle.kb_folder.specs.OneLane.{ComesBackWhole, IsOpened, TellsNoOther}
+use Rattle.kb_folder.specs.OneLane.{ComesBackWhole, IsLaneOf, IsOpened, TellsNoOther}
 
 -- The first lanes of a folder are open, of so many: the one at each place has its number, and is out.
 -- Nothing else has changed in the vault, and no call failed.
@@ -42,7 +38,7 @@ AreServed serves lanes = (place : ℕ) (lane : LaneValue _ _) → slice_get lane
 -- more, and each has the bytes that its disk reads, which stand for its log if the disk is honest. A disk
 -- that has failed, as that of a lane that has stopped, raises the vault's count; if none has, the count
 -- stays. Each disk that came back is told, where the vault tells them; if no append failed on it, a crash
--- leaves all of its lane's commands.
+-- leaves all of its lane's commands, and no call of it has failed since the lane was opened.
 pub record AreBack {D G : Type 0} (disks : DiskTold D) (folder : List ℕ) (old new : VaultTold D)
     (lanes : List (LaneValue D G)) : Type 0 where
   pub inside : SameLanes new.is_out (with_lanes old.is_out folder (length lanes) false)
@@ -54,6 +50,8 @@ pub record AreBack {D G : Type 0} (disks : DiskTold D) (folder : List ℕ) (old 
   pub durable : (place : ℕ) (lane : LaneValue D G) → slice_get lanes place ≡ Some lane
       → IsTrue (disks.honest lane.log.journal.disk) → lane.log.journal.stopped ≡ false
       → KeepsAll disks.images lane.log
+  pub quiet : (place : ℕ) (lane : LaneValue D G) → slice_get lanes place ≡ Some lane
+      → lane.log.journal.stopped ≡ false → disks.fault_count lane.log.journal.disk ≡ lane.log.faults
   pub others : (this_folder : List ℕ) (this : ℕ) → is_among folder (length lanes) this_folder this ≡ false
       → new.lane_bytes this_folder this ≡ old.lane_bytes this_folder this
   pub noted : (place : ℕ) (lane : LaneValue D G) → slice_get lanes place ≡ Some lane
@@ -90,6 +88,11 @@ abbrev pub AskedOnceEach : {D G : Type 0} → (G → Option (List Asked)) → Li
 AskedOnceEach asked lanes = (place : ℕ) (lane : LaneValue _ _) → slice_get lanes place ≡ Some lane
     → WasAskedOnce (opened_of lane) (asked lane.gateway) lane.own
 
+-- Each payment that a lane asked for since it was opened has an attempt.
+abbrev pub HaveAttemptsEach : {D G : Type 0} → List (LaneValue D G) → Type 0
+HaveAttemptsEach lanes = (place : ℕ) (lane : LaneValue _ _) → slice_get lanes place ≡ Some lane
+    → HaveAttempts (machine_of lane) lane.own
+
 -- Nothing was opened in a folder: the same lanes are out as before, and no lane has other bytes or was harmed
 -- in between.
 pub record IsAsBefore {D : Type 0} (disks : DiskTold D) (folder : List ℕ) (old new : VaultTold D)
@@ -109,23 +112,19 @@ abbrev pub TellsOtherLanes : Option (List ℕ) → List ℕ → Type 0
 TellsOtherLanes first bytes = IfSome first (λ first. number_at 8 bytes ≢ number_at 8 first)
 
 -- Why no lanes are opened: the vault or a disk of it failed; or memory ran out; or the bytes of this lane
--- are no lane, which shows at this place, or are one of another number of lanes; or the market failed.
+-- are no lane, which shows at this place, or are one of another number of lanes; or the market failed. A
+-- fault of form is told before another number of lanes: this is told only of bytes that are otherwise a lane
+-- of this number.
 abbrev pub IsCause : {D : Type 0} → List ℕ → VaultTold D → VaultTold D → ℕ → ℕ → Unopened → Type 0
 IsCause folder old new market_old market_new Disk = Rose old.faults new.faults × (market_new ≡ market_old)
 IsCause folder old new market_old market_new NoMemory = (new.faults ≡ old.faults) × (market_new ≡ market_old)
 IsCause folder old new market_old market_new (Journal lane at) =
-    IfSome (old.lane_bytes folder lane) (λ bytes.
-    IsNoLane lane bytes at ⊎ ((at ≡ 8) × TellsOtherLanes (old.lane_bytes folder 0) bytes))
+    IfSome (old.lane_bytes folder lane) (λ bytes. IsNoLane lane bytes at
+    ⊎ ((at ≡ 8) × TellsOtherLanes (old.lane_bytes folder 0) bytes × IsLaneOf (number_at 8 bytes) lane bytes))
     × (new.faults ≡ old.faults) × (market_new ≡ market_old)
 IsCause folder old new market_old market_new Market = (new.faults ≡ old.faults) × Rose market_old market_new
 
--- the bytes are those of the lane of a number, of so many: they stand for commands, each new to those
--- before it
-abbrev pub IsLaneOf : ℕ → ℕ → List ℕ → Type 0
-IsLaneOf count number bytes = (history : History) × StandsFor count number (payloads history) bytes
-    × AreNewFrom no_machine history
-
--- and so many are told by lane 0
+-- the bytes are those of the lane of a number, and as many lanes are told by lane 0
 abbrev pub IsLaneBeside : Option (List ℕ) → ℕ → List ℕ → Type 0
 IsLaneBeside first number bytes = (count : ℕ) × IsLaneOf count number bytes
     × IfSome first (λ first. number_at 8 first ≡ count)

@@ -5,6 +5,7 @@ ghost use Rattle.kb_catalog_text.specs.Texts.{CatalogText, OverdueText};
 ghost use Rattle.kb_machine.specs.Histories.{AreNewFrom, replay};
 ghost use Rattle.kb_machine.specs.Machines.{no_machine};
 ghost use Rattle.kb_disk.specs.Places.{SameFiles, SameLanes};
+ghost use Rattle.kb_folder.specs.Begun.{CrashesWith};
 ghost use Rattle.kb_folder.specs.Foundings.{first_commands, first_world, text_fault, TellsFault};
 ghost use Rattle.kb_folder.specs.Foundings.{FoundsWith, IsLeft, SameFrom, CountsFaults, SameOrWith};
 ghost use Rattle.kb_folder.specs.Foundings.{FailsAtOne, StopsBeforeOne, HarmsNone};
@@ -62,7 +63,12 @@ pub fn found_lanes<V: Vault>(
     ensures unharmed { OnErr result (SameOrWith today ((V.told vault.old).file_bytes catalog.now)
         ((V.told vault.old).file_bytes overdue.now) (HarmsNone folder.now lanes)
         (V.told vault.old).lane_bytes (V.told vault.new).lane_bytes) }
+    ensures moments { CrashesWith V.Disk.told today folder.now lanes
+        ((V.told vault.old).file_bytes catalog.now) ((V.told vault.old).file_bytes overdue.now)
+        (V.told vault.old) (V.told vault.new) result }
     ensures others { SameFrom folder.now lanes (V.told vault.old).lane_bytes (V.told vault.new).lane_bytes }
+    ensures others_back { SameFrom folder.now lanes (V.told vault.old).came_back
+        (V.told vault.new).came_back }
     ensures same_out { SameLanes (V.told vault.new).is_out (V.told vault.old).is_out }
     ensures same_files { SameFiles (V.told vault.new).file_bytes (V.told vault.old).file_bytes }
     ensures counted { CountsFaults (V.told vault.old).faults (V.told vault.new).faults result }

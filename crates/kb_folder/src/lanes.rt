@@ -2,7 +2,8 @@
 ghost use Rattle.std.specs.Prelude.{◌≡◌, ◌≤◌, ◌<◌, ◌∷◌, [], ℕ, false};
 ghost use Rattle.kb_journal.specs.Format.{IsSized};
 ghost use Rattle.kb_disk.specs.Places.{SameFiles, SameLanes};
-ghost use Rattle.kb_folder.specs.Foundings.{CountsFaults};
+ghost use Rattle.kb_folder.specs.Begun.{AllComeBackBy, ComesBackBy};
+ghost use Rattle.kb_folder.specs.Foundings.{CountsFaults, SameFrom};
 ghost use Rattle.kb_folder.specs.Private.Runs.{Founds, FoundsOne, SameElsewhere};
 
 use crate::unfounded::Unfounded;
@@ -26,6 +27,10 @@ pub(crate) fn found_each<V: Vault>(
     requires sized_second { IsSized second.now }
     ensures founds { Founds folder.now lanes (first.now ∷ second.now ∷ []) (V.told vault.old).lane_bytes
         (V.told vault.new).lane_bytes result }
+    ensures moments { AllComeBackBy V.Disk.told folder.now lanes (first.now ∷ second.now ∷ [])
+        (V.told vault.old) (V.told vault.new) result }
+    ensures others_back { SameFrom folder.now lanes (V.told vault.old).came_back
+        (V.told vault.new).came_back }
     ensures same_out { SameLanes (V.told vault.new).is_out (V.told vault.old).is_out }
     ensures same_files { SameFiles (V.told vault.new).file_bytes (V.told vault.old).file_bytes }
     ensures counted { CountsFaults (V.told vault.old).faults (V.told vault.new).faults result }
@@ -57,8 +62,13 @@ fn found_lane<V: Vault>(
     ensures founds { FoundsOne lanes lane (first.now ∷ second.now ∷ [])
         ((V.told vault.old).lane_bytes folder.now lane)
         ((V.told vault.new).lane_bytes folder.now lane) result }
+    ensures moments { ComesBackBy V.Disk.told lanes lane (first.now ∷ second.now ∷ [])
+        ((V.told vault.old).lane_bytes folder.now lane) ((V.told vault.old).came_back folder.now lane)
+        ((V.told vault.new).came_back folder.now lane) result }
     ensures others { SameElsewhere folder.now lane (V.told vault.old).lane_bytes
         (V.told vault.new).lane_bytes }
+    ensures others_back { SameElsewhere folder.now lane (V.told vault.old).came_back
+        (V.told vault.new).came_back }
     ensures same_out { SameLanes (V.told vault.new).is_out (V.told vault.old).is_out }
     ensures same_files { SameFiles (V.told vault.new).file_bytes (V.told vault.old).file_bytes }
     ensures counted { CountsFaults (V.told vault.old).faults (V.told vault.new).faults result }

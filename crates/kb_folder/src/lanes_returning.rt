@@ -1,7 +1,7 @@
 //! Lanes given back.
 ghost use Rattle.std.specs.Prelude.{◌≡◌, ◌≤◌, ◌<◌, ℕ, true, length};
 ghost use Rattle.kb_gateway.specs.Told.{payments_asked};
-ghost use Rattle.kb_folder.specs.Openings.{AreBack, AskedOnceEach, GatewaysAreBack};
+ghost use Rattle.kb_folder.specs.Openings.{AreBack, AskedOnceEach, GatewaysAreBack, HaveAttemptsEach};
 
 use crate::returning::give_back;
 use kb_disk::Vault;
@@ -24,6 +24,7 @@ pub fn put_back<V: Vault, M: Market>(
         (V.told vault.new) lanes.items }
     ensures gateways { GatewaysAreBack (M.told market.old) (M.told market.new) lanes.items }
     ensures once { AskedOnceEach (payments_asked M.Gateway.told) lanes.items }
+    ensures attempts { HaveAttemptsEach lanes.items }
 {
     let mut number = 0;
     for lane in lanes {

@@ -164,10 +164,10 @@ fn load_on<D: Disk, G: Gateway + Drop>(
     ensures few_lanes { IfOk result (λ lane. lane.log.journal.lanes ≤ 64) }
     ensures gateway { IfOk result (λ lane. lane.gateway ≡ gateway) }
     ensures same_gateway { IfErr result (λ refused. refused.2 ≡ gateway) }
-    ensures refused { (count : ℕ) (told : Option (List ℕ)) → IfSome told
+    ensures refused { (told : Option (List ℕ)) → IfSome told
         (Opens D.told.honest D.told.seen D.told.images disk)
         → IfErr result (λ refused. IsUnloaded D.told
-        count number told refused.0 refused.1) }
+        number told refused.0 refused.1) }
 {
     match Lane::load(alloc, disk, gateway, number) {
         Ok(lane) => Ok(lane),

@@ -2,8 +2,8 @@
 ghost use Rattle.std.specs.Prelude.{◌≡◌, ◌<◌, true, false, IsTrue};
 ghost use Rattle.kb_gateway.specs.Told.{payments_asked};
 ghost use Rattle.kb_lane.specs.Logs.{KeepsAll, StandsForLog};
-ghost use Rattle.kb_lane.specs.Asking.{WasAskedOnce};
-ghost use Rattle.kb_lane.specs.Lanes.{opened_of};
+ghost use Rattle.kb_lane.specs.Asking.{HaveAttempts, WasAskedOnce};
+ghost use Rattle.kb_lane.specs.Lanes.{machine_of, opened_of};
 ghost use Rattle.kb_folder.specs.OneLane.{GatewayIsBack, TakesBack};
 
 use kb_disk::Vault;
@@ -29,7 +29,10 @@ pub fn give_back<V: Vault, M: Market>(
     ensures durable { IsTrue (V.Disk.told.honest lane.log.journal.disk) → lane.log.journal.stopped ≡ false
         → KeepsAll V.Disk.told.images lane.log }
     ensures caused { lane.log.journal.stopped ≡ true → 0 < V.Disk.told.fault_count lane.log.journal.disk }
+    ensures quiet { lane.log.journal.stopped ≡ false
+        → V.Disk.told.fault_count lane.log.journal.disk ≡ lane.log.faults }
     ensures once { WasAskedOnce (opened_of lane) (payments_asked M.Gateway.told lane.gateway) lane.own }
+    ensures attempts { HaveAttempts (machine_of lane) lane.own }
 {
     let (disk, gateway) = lane.into_parts();
     vault.back(folder, number, disk);

@@ -39,6 +39,7 @@ pub(crate) fn both_records<V: Vault>(
     ensures of_text { (lane : ℕ) → result ≡ Err (Unfounded.NotEmpty lane) → ⊥ }
     ensures same_out { SameLanes (V.told vault.new).is_out (V.told vault.old).is_out }
     ensures same_lanes { SameLanes (V.told vault.new).lane_bytes (V.told vault.old).lane_bytes }
+    ensures same_back { SameLanes (V.told vault.new).came_back (V.told vault.old).came_back }
     ensures same_files { SameFiles (V.told vault.new).file_bytes (V.told vault.old).file_bytes }
     ensures counted { CountsFaults (V.told vault.old).faults (V.told vault.new).faults result }
     ensures rising { (V.told vault.old).faults ≤ (V.told vault.new).faults }
@@ -66,6 +67,7 @@ fn catalog_record<V: Vault>(
     ensures of_text { (lane : ℕ) → result ≡ Err (Unfounded.NotEmpty lane) → ⊥ }
     ensures same_out { SameLanes (V.told vault.new).is_out (V.told vault.old).is_out }
     ensures same_lanes { SameLanes (V.told vault.new).lane_bytes (V.told vault.old).lane_bytes }
+    ensures same_back { SameLanes (V.told vault.new).came_back (V.told vault.old).came_back }
     ensures same_files { SameFiles (V.told vault.new).file_bytes (V.told vault.old).file_bytes }
     ensures counted { CountsFaults (V.told vault.old).faults (V.told vault.new).faults result }
     ensures rising { (V.told vault.old).faults ≤ (V.told vault.new).faults }
@@ -90,6 +92,7 @@ fn overdue_record<V: Vault>(
     ensures of_text { (lane : ℕ) → result ≡ Err (Unfounded.NotEmpty lane) → ⊥ }
     ensures same_out { SameLanes (V.told vault.new).is_out (V.told vault.old).is_out }
     ensures same_lanes { SameLanes (V.told vault.new).lane_bytes (V.told vault.old).lane_bytes }
+    ensures same_back { SameLanes (V.told vault.new).came_back (V.told vault.old).came_back }
     ensures same_files { SameFiles (V.told vault.new).file_bytes (V.told vault.old).file_bytes }
     ensures counted { CountsFaults (V.told vault.old).faults (V.told vault.new).faults result }
     ensures rising { (V.told vault.old).faults ≤ (V.told vault.new).faults }

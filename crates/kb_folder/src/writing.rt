@@ -3,6 +3,7 @@ ghost use Rattle.std.specs.Prelude.{◌≡◌, ◌≤◌, ◌<◌, ◌+◌, ◌+
 ghost use Rattle.std.specs.Prelude.{OnOk, OnErr};
 ghost use Rattle.kb_base.specs.Faults.{Rose};
 ghost use Rattle.kb_disk.specs.Images.{Only};
+ghost use Rattle.kb_disk.specs.Moments.{AtEachMoment};
 ghost use Rattle.kb_journal.specs.Beginnings.{HasOrBegins, IsBegun};
 ghost use Rattle.kb_journal.specs.Format.{IsSized, IsWithOrWithout, StandsFor};
 ghost use Rattle.kb_journal.specs.Keeping.{Holds, RefusesToCreate};
@@ -32,6 +33,11 @@ pub(crate) fn write_lane<D: Disk>(
         (D.told.seen disk) (D.told.seen result.0)) }
     ensures refused { IfErr result.1 (λ fault.
         RefusesToCreate D.told.honest D.told.seen D.told.images D.told.fault_count disk fault result.0) }
+    ensures moments { IsTrue (D.told.honest disk) → Only (D.told.seen disk) (D.told.images disk)
+        → AtEachMoment D.told.moment D.told.left_since disk result.0
+        (HasOrBegins lanes lane (first.now ∷ second.now ∷ []) (D.told.seen disk)) }
+    ensures durable { IsTrue (D.told.honest disk) → OnOk result.1
+        (Only (D.told.seen result.0) (D.told.images result.0)) }
 {
     match Journal::create(disk, lane, lanes) {
         Ok(journal) => filled(journal, first, second),
@@ -53,6 +59,11 @@ fn filled<D: Disk>(journal: Journal<D>, first: &[u8], second: &[u8]) -> (D, Resu
     ensures calm { OnOk result.1 (D.told.fault_count result.0 ≡ D.told.fault_count journal.disk) }
     ensures fault { IfErr result.1 (λ fault. fault ≡ CreateFault.DiskFault) }
     ensures cause { OnErr result.1 (Rose (D.told.fault_count journal.disk) (D.told.fault_count result.0)) }
+    ensures moments { Holds D.told.honest D.told.seen D.told.images journal []
+        → AtEachMoment D.told.moment D.told.left_since journal.disk result.0
+        (IsBegun journal.lanes journal.lane (first.now ∷ second.now ∷ [])) }
+    ensures durable { Holds D.told.honest D.told.seen D.told.images journal [] → OnOk result.1
+        (Only (D.told.seen result.0) (D.told.images result.0)) }
 {
     let mut journal = journal;
     let added = add_both(&mut journal, first, second);
@@ -80,6 +91,9 @@ fn add_both<D: Disk>(
     ensures fault { IfErr result (λ fault. fault ≡ CreateFault.DiskFault) }
     ensures cause { OnErr result
         (Rose (D.told.fault_count journal.old.disk) (D.told.fault_count journal.new.disk)) }
+    ensures moments { Holds D.told.honest D.told.seen D.told.images journal.old []
+        → AtEachMoment D.told.moment D.told.left_since journal.old.disk journal.new.disk
+        (IsBegun journal.old.lanes journal.old.lane (first.now ∷ second.now ∷ [])) }
 {
     if add(journal, first).is_err() {
         return Err(CreateFault::DiskFault);
@@ -110,6 +124,10 @@ fn add<D: Disk>(journal: &mut Journal<D>, bytes: &[u8]) -> Result<(), Failed>
     ensures calm { OnOk result (D.told.fault_count journal.new.disk ≡ D.told.fault_count journal.old.disk) }
     ensures cause { OnErr result
         (Rose (D.told.fault_count journal.old.disk) (D.told.fault_count journal.new.disk)) }
+    ensures moments { (records : List (List ℕ)) → Holds D.told.honest D.told.seen D.told.images journal.old
+        records
+        → AtEachMoment D.told.moment D.told.left_since journal.old.disk journal.new.disk
+        (IsWithOrWithout journal.old.lanes journal.old.lane records bytes.now) }
 {
     match journal.append(bytes) {
         Ok(_) => Ok(()),

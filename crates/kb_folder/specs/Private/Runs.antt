@@ -7,7 +7,7 @@ use Rattle.kb_folder.specs.Foundings.{Bytes, IsFounded, IsLeft, IsUnharmed, Foun
 use Rattle.kb_folder.specs.Foundings.{StopsBeforeOne}
 
 -- of all lanes but one the same is told
-abbrev pub SameElsewhere : List ℕ → ℕ → Bytes → Bytes → Type 0
+abbrev pub SameElsewhere : {A : Type 0} → List ℕ → ℕ → (List ℕ → ℕ → A) → (List ℕ → ℕ → A) → Type 0
 SameElsewhere folder lane old new = (this_folder : List ℕ) (this : ℕ)
     → is_place folder lane this_folder this ≡ false
     → new this_folder this ≡ old this_folder this

@@ -1,8 +1,7 @@
 -- A lane that was taken out of a folder, and is opened or not.
-use Rattle.std.specs.Prelude.{ℕ, ◌≡◌, ◌≢◌, ◌≤◌, ◌<◌, ◌⊎◌, false, List, Option, IfSome}
+use Rattle.std.specs.Prelude.{ℕ, ◌≡◌, ◌≤◌, ◌<◌, false, List, Option, IfSome}
 use Rattle.kb_disk.specs.Places.{with_lane, SameLanes, SameFiles}
 use Rattle.kb_disk.specs.Told.{DiskTold, VaultTold}
-use Rattle.kb_journal.specs.Reading.{number_at}
 use Rattle.kb_lane.specs.Lanes.{LaneValue}
 use Rattle.kb_lane.specs.Loads.{IsNoLane}
 use Rattle.kb_folder.specs.declared.unopened.Unopened.{Unopened}
@@ -27,20 +26,18 @@ abbrev pub StaysOut : {D G : Type 0} → DiskTold D → ℕ → ℕ → Option (
     → LaneValue D G → Type 0
 StaysOut disks count number told old new lane = (new ≡ old) × IsOpened disks count number told lane
 
--- Why the lane of this number, of so many and with these bytes, isn't loaded from a disk, and what that
--- leaves: its bytes are as they were, and no call of it failed, unless that is the cause.
-abbrev pub IsUnloadedBy : ℕ → ℕ → Option (List ℕ) → Unopened → ℕ → Type 0
-IsUnloadedBy count number told Disk failed = 0 < failed
-IsUnloadedBy count number told NoMemory failed = failed ≡ 0
-IsUnloadedBy count number told (Journal lane at) failed =
-    (lane ≡ number)
-    × IfSome told (λ bytes. IsNoLane number bytes at ⊎ ((at ≡ 8) × (number_at 8 bytes ≢ count)))
-    × (failed ≡ 0)
-IsUnloadedBy count number told Market failed = ⊥
+-- Why the lane of this number, with these bytes, isn't loaded from a disk, and what that leaves: its bytes
+-- are as they were, and no call of it failed, unless that is the cause. Of how many lanes it is isn't asked.
+abbrev pub IsUnloadedBy : ℕ → Option (List ℕ) → Unopened → ℕ → Type 0
+IsUnloadedBy number told Disk failed = 0 < failed
+IsUnloadedBy number told NoMemory failed = failed ≡ 0
+IsUnloadedBy number told (Journal lane at) failed =
+    (lane ≡ number) × IfSome told (λ bytes. IsNoLane number bytes at) × (failed ≡ 0)
+IsUnloadedBy number told Market failed = ⊥
 
-abbrev pub IsUnloaded : {D : Type 0} → DiskTold D → ℕ → ℕ → Option (List ℕ) → Unopened → D → Type 0
-IsUnloaded disks count number told fault disk = IfSome told (λ bytes. disks.seen disk ≡ bytes)
-    × KeepsBytes disks told disk × IsUnloadedBy count number told fault (disks.fault_count disk)
+abbrev pub IsUnloaded : {D : Type 0} → DiskTold D → ℕ → Option (List ℕ) → Unopened → D → Type 0
+IsUnloaded disks number told fault disk = IfSome told (λ bytes. disks.seen disk ≡ bytes)
+    × KeepsBytes disks told disk × IsUnloadedBy number told fault (disks.fault_count disk)
 
 -- a lane whose disk was taken out isn't opened, and is given back
 abbrev pub IsUnmade : {D : Type 0} → DiskTold D → List ℕ → ℕ → ℕ → Option (List ℕ) → VaultTold D → VaultTold D

@@ -3,6 +3,8 @@ use Rattle.kb_codec.specs.Entries.{payload, payloads}
 use Rattle.kb_folder.specs.Foundings.{CountsFaults, catalog_command, overdue_command, first_commands}
 use Rattle.kb_folder.specs.Private.Runs.{Founds}
 use Rattle.kb_folder.proofs.Outcomes.{from_start, founded_with, one_left, no_text, tells_of, others_same}
+use Rattle.kb_folder.specs.Begun.{AllComeBackBy}
+use Rattle.kb_folder.proofs.ComeBack.{crashes_with}
 use Rattle.kb_folder.proofs.Unharmed.{unharmed_with}
 use Rattle.kb_folder.proofs.founding.found_lanes.Goals as goal
 
@@ -86,3 +88,28 @@ pub returns-clause-counted : goal.returns-clause-counted
 returns-clause-counted g c =
     subst (λ old. CountsFaults old (g.V.Vault.told c.found_each.new.vault).faults c.found_each.result)
     c.in-Ok.ensures.counted c.found_each.ensures.counted
+
+-- what came back, by the texts as records
+back : (g : _) (c : goal.After-drop-first g) → AllComeBackBy g.V.Disk.Disk.told c.args.folder.now c.args.lanes
+    (payloads (first_commands c.args.today c.in-Ok.ensures.records.0 c.in-Ok.ensures.records.1))
+    (g.V.Vault.told c.both_records.new.vault) (g.V.Vault.told c.found_each.new.vault) c.found_each.result
+back g c =
+    let told = c.in-Ok.ensures.records in
+    let one = c.deref.ensures.value in
+    let other = c.deref-2.ensures.value in
+    let first : c.deref.result.now ≡ payload (c.args.today, catalog_command told.0) = let is = told.3 in cc in
+    let second : c.deref-2.result.now ≡ payload (c.args.today, overdue_command told.1) = let is =
+    told.4 in cc in
+    subst (λ (records : List (List _)). AllComeBackBy g.V.Disk.Disk.told c.args.folder.now c.args.lanes records
+    (g.V.Vault.told c.both_records.new.vault) (g.V.Vault.told c.found_each.new.vault) c.found_each.result)
+    (ap₂ (λ a b. a ∷ b ∷ []) first second) c.found_each.ensures.moments
+
+pub returns-clause-moments : goal.returns-clause-moments
+returns-clause-moments g c =
+    crashes_with g.V.Disk.Disk.told c.args.today c.args.folder.now c.args.lanes
+    ((g.V.Vault.told c.args.vault.now).file_bytes c.args.catalog.now)
+    ((g.V.Vault.told c.args.vault.now).file_bytes c.args.overdue.now)
+    (g.V.Vault.told c.args.vault.now) (g.V.Vault.told c.both_records.new.vault)
+    (g.V.Vault.told c.found_each.new.vault) c.in-Ok.ensures.records.0 c.in-Ok.ensures.records.1
+    c.in-Ok.ensures.records.2 c.both_records.ensures.same_lanes c.both_records.ensures.same_back
+    c.found_each.result (back g c)

@@ -2,11 +2,11 @@ use Rattle.std.proofs.Common.{◌≡◌, ◌∷◌, [], ◌+◌, ℕ, length, tr
 use Rattle.std.proofs.Common.{append-nil, refl, rules}
 use Rattle.std.specs.Vec.Iter.{into_iter_items}
 use Rattle.kb_gateway.specs.Told.{payments_asked}
-use Rattle.kb_folder.specs.Openings.{AreBack, AskedOnceEach, GatewaysAreBack}
+use Rattle.kb_folder.specs.Openings.{AreBack, AskedOnceEach, GatewaysAreBack, HaveAttemptsEach}
 use Rattle.kb_folder.specs.OneLane.{GatewayIsBack, TakesBack}
 use Rattle.kb_folder.proofs.Gateways.{none_gateways, one_more_gateway}
 use Rattle.kb_folder.proofs.Places.{length_snoc, next_within, nothing_left}
-use Rattle.kb_folder.proofs.Returned.{asked_more, none_back, next_out, one_more_back}
+use Rattle.kb_folder.proofs.Returned.{asked_more, attempts_more, none_back, next_out, one_more_back}
 use Rattle.kb_folder.proofs.lanes_returning.put_back.Goals as goal
 
 pub give_back-requires-clause-outside : goal.give_back-requires-clause-outside
@@ -52,7 +52,8 @@ loop-lane-preserved g c =
           (g.V.Vault.told
           c.give_back.new.vault)
           lane.log.journal.disk) (sym at.invariant.2) c.give_back.ensures.back)
-          c.give_back.ensures.stands c.give_back.ensures.caused c.give_back.ensures.durable,
+          c.give_back.ensures.stands c.give_back.ensures.caused c.give_back.ensures.durable
+          c.give_back.ensures.quiet,
       asked_more (payments_asked g.M.Gateway.Gateway.told) at.yielded lane at.invariant.4
           c.give_back.ensures.once,
       one_more_gateway (g.M.Market.told c.args.market.now) (g.M.Market.told at.market)
@@ -60,6 +61,7 @@ loop-lane-preserved g c =
           (subst (λ (n : ℕ). GatewayIsBack n (g.M.Market.told at.market)
           (g.M.Market.told c.give_back.new.market) lane.gateway) (sym at.invariant.2)
           c.give_back.ensures.gateway),
+      attempts_more at.yielded lane at.invariant.6 c.give_back.ensures.attempts,
     )
 
 pub loop-lane-init : goal.loop-lane-init
@@ -73,6 +75,7 @@ loop-lane-init g c = (
       [] refl,
   λ place lane is. absurd (cc),
   none_gateways (g.M.Market.told c.args.market.now) [] refl,
+  λ place lane is. absurd (cc),
 )
 
 pub returns-clause-back : goal.returns-clause-back
@@ -105,3 +108,12 @@ returns-clause-gateways g c =
     let all = sym (append-nil at.yielded) ∙ rw empty at at.invariant.0
     ∙ c.into_iter-lane-iterator.ensures.into_iter_gives.0 in
     subst (GatewaysAreBack (g.M.Market.told c.args.market.now) (g.M.Market.told at.market)) all at.invariant.5
+
+pub returns-clause-attempts : goal.returns-clause-attempts
+returns-clause-attempts g c =
+    let at = c.loop-lane in
+    let none = c.in-None.ensures.steps in
+    let empty : into_iter_items at.lane-iterator ≡ [] = nothing_left _ (sym at.invariant.1 ∙ none.0) in
+    let all = sym (append-nil at.yielded) ∙ rw empty at at.invariant.0
+    ∙ c.into_iter-lane-iterator.ensures.into_iter_gives.0 in
+    subst HaveAttemptsEach all at.invariant.6

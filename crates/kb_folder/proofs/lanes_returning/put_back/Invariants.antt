@@ -1,7 +1,7 @@
 use Rattle.std.proofs.Common.{◌≡◌, ◌++◌, length}
 use Rattle.std.specs.Vec.Iter.{into_iter_items, into_iter_len}
 use Rattle.kb_gateway.specs.Told.{payments_asked}
-use Rattle.kb_folder.specs.Openings.{AreBack, AskedOnceEach, GatewaysAreBack}
+use Rattle.kb_folder.specs.Openings.{AreBack, AskedOnceEach, GatewaysAreBack, HaveAttemptsEach}
 use Rattle.kb_folder.proofs.lanes_returning.put_back.Given as goal
 
 -- the lanes so far are back
@@ -15,3 +15,4 @@ invariant-loop-lane g l =
     (g.V.Vault.told l.vault) l.yielded
     × AskedOnceEach (payments_asked g.M.Gateway.Gateway.told) l.yielded
     × GatewaysAreBack (g.M.Market.told l.fn.market) (g.M.Market.told l.market) l.yielded
+    × HaveAttemptsEach l.yielded

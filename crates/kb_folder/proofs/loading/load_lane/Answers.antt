@@ -17,4 +17,4 @@ returns-in-Err-clause-refused g c count told market opens =
       risen = c.back.ensures.risen;
       calm = c.back.ensures.calm;
       rising = c.back.ensures.rising;
-    }) (c.in-Err.ensures.refused count told opens)
+    }) (c.in-Err.ensures.refused told opens)
