@@ -1,5 +1,13 @@
 mod Accounts
 mod Beside
-pub mod Continuing
+mod EachLane
 mod LaneLoops
+mod LanesAlike
+mod Later
+mod OverRuns
 mod Served
+pub mod AskedOn
+pub mod Continuing
+pub mod Filled
+pub mod Found
+pub mod RunsAlike

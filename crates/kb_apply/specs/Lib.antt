@@ -1,3 +1,4 @@
 pub mod Addressed
 pub mod Applying
+pub mod Determined
 pub mod LaneRuns

@@ -9,10 +9,12 @@
 mod addressed;
 mod answer;
 mod apply;
+mod determined;
 mod drains;
 mod lanes;
 mod look_ups;
 mod texts;
 
 pub use apply::apply_lanes;
+pub use determined::runs_are_determined;
 pub use lanes::Lanes;
