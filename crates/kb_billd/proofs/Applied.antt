@@ -1,12 +1,16 @@
 -- A run over lines of lanes that were opened and are given back.
-use Rattle.std.proofs.Common.{◌≡◌, ℕ, zero, suc, ◌≤◌, Bool, true, false, IsTrue, List, [], ◌∷◌, length}
-use Rattle.std.proofs.Common.{Option, None, Some, IfSome, Result, Ok, Err, arith, refl, sym, subst, ◌∙◌}
+use Rattle.std.proofs.Common.{◌≡◌, ℕ, suc, ◌≤◌, Bool, true, false, IsTrue, List, [], ◌∷◌, ◌++◌, length, map}
+use Rattle.std.proofs.Common.{Option, None, Some, IfSome, Result, Err, arith, refl, sym, ap, subst, ◌∙◌}
 use Rattle.std.specs.List.{slice_get}
 use Rattle.kb_base.specs.Faults.{Rose}
 use Rattle.kb_disk.specs.Vaults.{Opens}
 use Rattle.kb_disk.specs.Told.{VaultTold}
-use Rattle.kb_gateway.specs.Told.{MarketTold}
-use Rattle.kb_lane.specs.Logs.{StandsForLog}
+use Rattle.kb_gateway.specs.Answers.{asked_of}
+use Rattle.kb_gateway.specs.declared.order.Asked.{Asked}
+use Rattle.kb_gateway.specs.declared.order.Order.{Order}
+use Rattle.kb_gateway.specs.Told.{GatewayTold, MarketTold, payments_asked, payments_in}
+use Rattle.kb_lane.specs.Asking.{AreApart, HaveAttempts}
+use Rattle.kb_lane.specs.Logs.{HasNoRoom, StandsForLog}
 use Rattle.kb_histories.proofs.BilledNow.{replays_are_billed_now}
 use Rattle.kb_histories.proofs.EvenNow.{replays_are_even_now}
 use Rattle.kb_histories.specs.OnlyAdded.{BooksGoOn}
@@ -23,7 +27,11 @@ use Rattle.kb_apply.specs.Applying.{Applies}
 use Rattle.kb_desk.specs.Stops.{any_stopped}
 use Rattle.kb_desk.specs.Continuing.{Continues, ContinueAll}
 use Rattle.kb_apply.specs.LaneRuns.{LanesValue, Outside, lanes_machine}
-use Rattle.kb_apply.proofs.Continuing.{done_continues, stopped_continues}
+use Rattle.kb_apply.proofs.AskedOn.{AsksOn, run_asks_on}
+use Rattle.kb_apply.proofs.Continuing.{run_continues}
+use Rattle.kb_apply.proofs.Filled.{run_fills}
+use Rattle.kb_apply.proofs.Found.{found_beside, none_stopped}
+use Rattle.kb_apply.proofs.RunsAlike.{runs_are_determined}
 use Rattle.kb_ports.specs.Notes.{Notes}
 use Rattle.kb_folder.specs.OneLane.{IsOpened}
 use Rattle.kb_folder.specs.Openings.{AreOpened, AreServed, AreUnasked}
@@ -31,16 +39,6 @@ use Rattle.kb_folder.proofs.Closing.{as_out_as_before, others_as_before}
 use Rattle.kb_billd.specs.Runs.{LeavesPrefix, RunsLanes}
 use Rattle.kb_billd.proofs.Prefixes.{prefix_left}
 use Rattle.kb_billd.specs.Private.OpenRuns.{RunsOpen}
-
--- an item at a place has one at the same place of a list as long
-found_beside : {A B : Type 0} (items : List A) (others : List B) (place : ℕ) (item : A)
-    → slice_get items place ≡ Some item → length items ≡ length others
-    → (other : B) × (slice_get others place ≡ Some other)
-found_beside [] others place item is same = absurd (cc)
-found_beside (first ∷ later) [] place item is same = absurd (omega (arith, same))
-found_beside (first ∷ later) (other ∷ others) zero item is same = (other, refl)
-found_beside (first ∷ later) (other ∷ others) (suc place) item is same =
-    found_beside later others place item is (omega (arith, same))
 
 -- a place with a lane that has stopped
 abbrev HasStopped : {D G : Type 0} → List (LaneValue D G) → Type 0
@@ -70,33 +68,44 @@ begun_is {D} {G} {C} made lanes clock are is none =
     = subst (λ time. made ≡ record { lanes = made.lanes; clock = time; full = false }) is one in
     subst (λ all. made ≡ record { lanes = all; clock = clock; full = false }) are two
 
+the_same : {D G : Type 0} (one other : LaneValue D G) → Some one ≡ Some other → one ≡ other
+the_same one other same = cc
+
+-- a gateway that was asked nothing when its lane was opened was asked since then what the lane asked for
+since_opened : {D G : Type 0} (gateways : GatewayTold G) (first last : LaneValue D G) → AsksOn gateways first last
+    → first.own ≡ [] → IfSome (gateways.asked first.gateway) (λ asked. asked ≡ [])
+    → IfSome (payments_asked gateways last.gateway) (λ all. all ≡ last.own)
+since_opened {D} {G} gateways first last asks unasked none =
+    by_told (payments_asked gateways last.gateway) refl
+  where
+    by_first : (orders : Option (List Order)) (some : List Asked)
+        → IfSome orders (λ asked. asked ≡ []) → payments_in orders ≡ Some some → some ≡ []
+    by_first None some none is = absurd (cc)
+    by_first (Some orders) some none is = by_none orders some none (cc)
+      where
+        by_none : (orders : List Order) (some : List Asked) → orders ≡ [] → map asked_of orders ≡ some
+            → some ≡ []
+        by_none [] some none is = sym is
+        by_none (order ∷ later) some none is = absurd (cc)
+
+    by_told : (told : Option (List Asked)) → payments_asked gateways last.gateway ≡ told
+        → IfSome told (λ all. all ≡ last.own)
+    by_told None is = tt
+    by_told (Some all) is =
+        let before = asks.told all is in
+        let none_before = by_first (gateways.asked first.gateway) before.0 none before.1 in
+        let all_more : all ≡ asks.more = before.2 ∙ ap (λ some. some ++ asks.more) none_before in
+        let own_more : last.own ≡ asks.more = asks.own ∙ ap (λ some. some ++ asks.more) unasked in
+        all_more ∙ sym own_more
+
 module _ {D G C : Type 0} (outside : Outside D G C) (begun : LanesValue D G C)
     (left left_after written written_after : Known) where
-  -- however a run ended, the lanes go on
-  further : (last : LanesValue D G C) (outcome : Result (Unit {0}) Stop)
-      → Applies (lanes_machine outside) begun left left_after written written_after last outcome
-      → ContinueAll (Continues outside.disks.honest outside.disks.moment outside.disks.left_since
-      outside.disks.fault_count)
-      begun.lanes last.lanes
-  further last (Ok done) ran =
-      let told = ran.0.1 in done_continues outside told.0 told.2.0 begun last told.2.2.1
-  further last (Err stops.Disk) ran =
-      let told = ran.0.1 in done_continues outside told.0 told.2.0 begun last told.2.2.1
-  further last (Err stops.Full) ran =
-      let told = ran.0.1 in done_continues outside told.0 told.2.0 begun last told.2.2.1
-  further last (Err (stops.Run stop)) ran =
-      stopped_continues outside stop ran.0 ran.2.0 begun last ran.2.2
-  further last (Err stops.Words) ran = absurd ran.1
-  further last (Err (stops.Journal lane at)) ran = absurd ran.1
-  further last (Err (stops.Text fault)) ran = absurd ran.1
-  further last (Err stops.Market) ran = absurd ran.1
-  further last (Err (stops.NotEmpty lane)) ran = absurd ran.1
-
-  -- and there are as many as before
+  -- there are as many lanes as before
   pub as_many : (last : LanesValue D G C) (outcome : Result (Unit {0}) Stop)
       → Applies (lanes_machine outside) begun left left_after written written_after last outcome
       → length last.lanes ≡ length begun.lanes
-  as_many last outcome ran = (further last outcome ran).count
+  as_many last outcome ran =
+      (run_continues outside begun last left left_after written written_after outcome ran).count
 
 module _ {D G C : Type 0} (outside : Outside D G C) (folder : List ℕ) (clock : C)
     (old mid new : VaultTold D) (market market_mid market_after : MarketTold G)
@@ -114,7 +123,7 @@ module _ {D G C : Type 0} (outside : Outside D G C) (folder : List ℕ) (clock :
           outside.disks.fault_count
 
       on : ContinueAll Goes first run.last.lanes
-      on = further outside begun left left_after written written_after run.last outcome run.ran
+      on = run_continues outside begun run.last left left_after written written_after outcome run.ran
 
       -- the lane from which one went on
       was : (place : ℕ) (lane : LaneValue D G) → slice_get run.last.lanes place ≡ Some lane
@@ -122,10 +131,35 @@ module _ {D G C : Type 0} (outside : Outside D G C) (folder : List ℕ) (clock :
       was place lane is =
           let one = found_beside run.last.lanes first place lane is on.count in
           let next = on.each place one.0 one.1 in
-          (one.0, one.1, subst (Goes one.0) (by_some next.0 (sym next.1 ∙ is)) next.2)
-        where
-          by_some : (next : LaneValue D G) → Some next ≡ Some lane → next ≡ lane
-          by_some next same = cc
+          (one.0, one.1, subst (Goes one.0) (the_same next.0 lane (sym next.1 ∙ is)) next.2)
+
+      -- its gateway was asked for what the lane asked for since it was opened
+      asked : AreUnasked outside.gateways first → (place : ℕ) (lane : LaneValue D G)
+          → slice_get run.last.lanes place ≡ Some lane
+          → IfSome (payments_asked outside.gateways lane.gateway) (λ all. all ≡ lane.own)
+      asked unasked place lane is =
+          let one = was place lane is in
+          let asks = run_asks_on outside begun run.last left left_after written written_after outcome run.ran in
+          let next = asks.each place one.0 one.1 in
+          since_opened outside.gateways one.0 lane
+          (subst (AsksOn outside.gateways one.0) (the_same next.0 lane (sym next.1 ∙ is)) next.2)
+          (opened.each place one.0 one.1).unasked (unasked place one.0 one.1).asked
+
+      -- so for no payment twice, and only for attempts
+      apart : (place : ℕ) (lane : LaneValue D G) → slice_get run.last.lanes place ≡ Some lane
+          → (told : Option (List Asked)) → payments_asked outside.gateways lane.gateway ≡ told
+          → IfSome told (λ all. all ≡ lane.own) → IfSome told AreApart
+      apart place lane is None told same = tt
+      apart place lane is (Some all) told same = run.once place lane is all [] told same
+          (λ i j d low high alike. absurd (omega (arith, low, high)))
+          (λ k d less. absurd (omega (arith, less)))
+
+      attempts : (place : ℕ) (lane : LaneValue D G) → slice_get run.last.lanes place ≡ Some lane
+          → (told : Option (List Asked)) → IfSome told (λ all. all ≡ lane.own)
+          → IfSome told (HaveAttempts (machine_of lane))
+      attempts place lane is None same = tt
+      attempts place lane is (Some all) same =
+          subst (HaveAttempts (machine_of lane)) (sym same) (run.attempts place lane is)
 
       -- a lane's disk is honest if it was when it was opened, as where its bytes were told
       stays_honest : (place : ℕ) (lane : LaneValue D G) → slice_get run.last.lanes place ≡ Some lane
@@ -161,15 +195,32 @@ module _ {D G C : Type 0} (outside : Outside D G C) (folder : List ℕ) (clock :
             at_end = run.back.durable place lane is honest;
           }
 
-      -- the disk failed: the vault's count rose
-      disk_rose : outcome ≡ Err stops.Disk → Rose old.faults new.faults
-      disk_rose is = rw (← opened.calm) (rose (subst (Applies (lanes_machine outside) begun left
-          left_after written
-          written_after run.last) is run.ran).1)
+      -- a lane has stopped: the vault's count rose
+      caused : any_stopped run.last.lanes ≡ true → Rose old.faults new.faults
+      caused any = let found = stopped_at run.last.lanes any in
+          rw (← opened.calm) (run.back.stopped found.0 found.1 found.2 found.3)
+
+      -- none has: no call of a disk failed
+      calm : any_stopped run.last.lanes ≡ false → new.faults ≡ old.faults
+      calm none = run.back.calm quiet ∙ opened.calm
         where
-          rose : any_stopped run.last.lanes ≡ true → Rose mid.faults new.faults
-          rose any = let found = stopped_at run.last.lanes any in
-              run.back.stopped found.0 found.1 found.2 found.3
+          quiet : (place : ℕ) (lane : LaneValue D G) → slice_get run.last.lanes place ≡ Some lane
+              → outside.disks.fault_count lane.log.journal.disk ≡ 0
+          quiet place lane is =
+              let one = was place lane is in
+              run.back.quiet place lane is (none_stopped run.last.lanes none place lane is)
+              ∙ one.2.itself.faults ∙ (opened.each place one.0 one.1).faults
+
+      disk_rose : outcome ≡ Err stops.Disk → Rose old.faults new.faults
+      disk_rose is = caused (subst (Applies (lanes_machine outside) begun left left_after written written_after
+          run.last) is run.ran).1
+
+      -- there was no room: some lane has none
+      filled : outcome ≡ Err stops.Full → (place : ℕ) × (lane : LaneValue D G)
+          × (slice_get run.last.lanes place ≡ Some lane) × HasNoRoom lane.log 65536
+      filled is = run_fills outside begun run.last left left_after written written_after outcome run.ran refl
+          (subst (Applies (lanes_machine outside) begun left left_after written written_after run.last) is
+          run.ran).1.1
 
       -- items are only added to invoices
       invoices : ContinueAll (λ lane next. BooksGoOn (machine_of lane) (machine_of next)) first run.last.lanes
@@ -193,7 +244,7 @@ module _ {D G C : Type 0} (outside : Outside D G C) (folder : List ℕ) (clock :
           → ((lane : ℕ) → old.is_out folder lane ≡ false)
           → RunsLanes outside serves folder clock old new market market_after left left_after written
           written_after outcome
-      runs_lanes serves served unasked same calm some few inside = record {
+      runs_lanes serves served unasked same still some few inside = record {
         first = first;
         last = run.last;
         some = some;
@@ -202,6 +253,7 @@ module _ {D G C : Type 0} (outside : Outside D G C) (folder : List ℕ) (clock :
         served = served;
         unasked = unasked;
         ran = run.ran;
+        determined = runs_are_determined outside;
         further = on;
         invoices = invoices;
         sound = λ place lane is. record {
@@ -210,6 +262,10 @@ module _ {D G C : Type 0} (outside : Outside D G C) (folder : List ℕ) (clock :
           added = replays_add_up lane.log.history;
           even = replays_are_even_now lane.log.history;
           once = run.once place lane is;
+          apart = apart place lane is (payments_asked outside.gateways lane.gateway) refl
+              (asked unasked place lane is);
+          attempts = attempts place lane is (payments_asked outside.gateways lane.gateway)
+              (asked unasked place lane is);
         };
         disks_back = λ place lane is. subst (λ (before : Option (List D)).
             Notes before lane.log.journal.disk (new.came_back folder place)) (opened.came_back folder place)
@@ -219,11 +275,14 @@ module _ {D G C : Type 0} (outside : Outside D G C) (folder : List ℕ) (clock :
               Notes before lane.gateway (market_after.came_back place)) (same place)
               (run.gateways_back.noted place lane is);
           others = λ place past. run.gateways_back.others place past ∙ same place;
-          calm = run.gateways_back.calm ∙ calm;
+          calm = run.gateways_back.calm ∙ still;
         };
         crash = λ place lane is. crash place lane is (old.lane_bytes folder place) refl;
         stands = λ place lane is. stands place lane is (old.lane_bytes folder place) refl;
         counted = disk_rose;
+        caused = caused;
+        calm = calm;
+        filled = filled;
         inside = as_out_as_before outside.disks folder (length first) old mid new first run.last.lanes opened
             run.back on.count
             inside;

@@ -161,7 +161,7 @@ module _ {D G C : Type 0} (outside : Outside D G C) (serves : G → List ℕ →
       → Rose old.vault.faults new.vault.faults
   does-disk None does is = let same = other stops.Disk does.0 is in absurd (cc)
   does-disk (Some (words.Init init)) does is =
-      founding_disk does.today init old.vault new.vault outcome does.founded is
+      founding_disk outside.disks does.today init old.vault new.vault outcome does.founded is
   does-disk (Some (words.Apply apply)) does is = by-disk apply.dir (gateway_of apply.gateway) does is
   does-disk (Some (words.Bill bill)) does is = let same = other stops.Disk does.0 is in absurd (cc)
   does-disk (Some (words.Serve serve)) does is = let same = other stops.Disk does.0 is in absurd (cc)
@@ -191,7 +191,7 @@ module _ {D G C : Type 0} (outside : Outside D G C) (serves : G → List ℕ →
       → outcome ≡ Err stops.Market → Rose old.market.faults new.market.faults
   does-market None does is = let same = other stops.Market does.0 is in absurd (cc)
   does-market (Some (words.Init init)) does is =
-      absurd (founding_no_market does.today init old.vault new.vault outcome does.founded is)
+      absurd (founding_no_market outside.disks does.today init old.vault new.vault outcome does.founded is)
   does-market (Some (words.Apply apply)) does is = by-market apply.dir (gateway_of apply.gateway) does is
   does-market (Some (words.Bill bill)) does is = let same = other stops.Market does.0 is in absurd (cc)
   does-market (Some (words.Serve serve)) does is = let same = other stops.Market does.0 is in absurd (cc)

@@ -5,7 +5,7 @@ use Rattle.kb_catalog_text.specs.declared.fault.TextFault.{TextFault}
 use Rattle.kb_runs.specs.declared.run_stop.RunStop.TheVariants as runs
 use Rattle.kb_words.specs.declared.words.Init.{Init}
 use Rattle.kb_disk.specs.Places.{SameLanes}
-use Rattle.kb_disk.specs.Told.{VaultTold}
+use Rattle.kb_disk.specs.Told.{DiskTold, VaultTold}
 use Rattle.kb_folder.specs.declared.unfounded.Unfounded.{Unfounded}
 use Rattle.kb_folder.specs.declared.unfounded.Unfounded.TheVariants as unfounded
 use Rattle.kb_folder.specs.Foundings.{FailsAtOne, FoundsWith, IsLeft, CountsFaults, SameOrWith, StopsBeforeOne}
@@ -37,8 +37,9 @@ module _ {D : Type 0} (today : ℕ) (init : Init) (old new : VaultTold D) where
   made_by (Err unfounded.Disk) founded untouched not_empty before failed no_memory = failed refl
   made_by (Err unfounded.NoMemory) founded untouched not_empty before failed no_memory = no_memory refl
 
+module _ {D : Type 0} (disks : DiskTold D) (today : ℕ) (init : Init) (old new : VaultTold D) where
   -- a disk that failed is counted, and no other end is that of a disk or a market
-  pub founding_disk : (outcome : Result (Unit {0}) Stop) → FoundsFolder today init old new outcome
+  pub founding_disk : (outcome : Result (Unit {0}) Stop) → FoundsFolder disks today init old new outcome
       → outcome ≡ Err stops.Disk → Rose old.faults new.faults
   founding_disk outcome founds is = by_end founds.ended (sym founds.told ∙ is) founds.counted
     where
@@ -50,7 +51,7 @@ module _ {D : Type 0} (today : ℕ) (init : Init) (old new : VaultTold D) where
       by_end (Err (unfounded.Text fault)) same counts = absurd (cc)
       by_end (Err (unfounded.NotEmpty lane)) same counts = absurd (cc)
 
-  pub founding_no_market : (outcome : Result (Unit {0}) Stop) → FoundsFolder today init old new outcome
+  pub founding_no_market : (outcome : Result (Unit {0}) Stop) → FoundsFolder disks today init old new outcome
       → outcome ≡ Err stops.Market → ⊥
   founding_no_market outcome founds is = by_end founds.ended (sym founds.told ∙ is)
     where
@@ -62,7 +63,7 @@ module _ {D : Type 0} (today : ℕ) (init : Init) (old new : VaultTold D) where
       by_end (Err (unfounded.NotEmpty lane)) same = absurd (cc)
 
   -- nothing was read or written, so neither failed
-  pub founding_no_input : (outcome : Result (Unit {0}) Stop) → FoundsFolder today init old new outcome
+  pub founding_no_input : (outcome : Result (Unit {0}) Stop) → FoundsFolder disks today init old new outcome
       → outcome ≡ Err (stops.Run runs.Input) → ⊥
   founding_no_input outcome founds is = by_end founds.ended (sym founds.told ∙ is)
     where
@@ -74,7 +75,7 @@ module _ {D : Type 0} (today : ℕ) (init : Init) (old new : VaultTold D) where
       by_end (Err (unfounded.Text fault)) same = absurd (cc)
       by_end (Err (unfounded.NotEmpty lane)) same = absurd (cc)
 
-  pub founding_no_output : (outcome : Result (Unit {0}) Stop) → FoundsFolder today init old new outcome
+  pub founding_no_output : (outcome : Result (Unit {0}) Stop) → FoundsFolder disks today init old new outcome
       → outcome ≡ Err (stops.Run runs.Output) → ⊥
   founding_no_output outcome founds is = by_end founds.ended (sym founds.told ∙ is)
     where

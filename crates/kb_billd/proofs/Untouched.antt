@@ -33,12 +33,12 @@ untouched around = record {
 }
 
 -- lanes are made, and nothing is read or written for that
-pub founds : {D G : Type 0} (told : Option ℕ) (init : Init) (left written : Known) (old new : VaultTold D)
+pub founds : {D G : Type 0} (disks : DiskTold D) (told : Option ℕ) (init : Init) (left written : Known) (old new : VaultTold D)
     (market : MarketTold G)
     (outcome : Result (Unit {0}) Stop) (today : ℕ) → IsToday told today
-    → FoundsFolder today init old new outcome
-    → Founds told init (around_of left written old market) (around_of left written new market) outcome
-founds told init left written old new market outcome today day founded = record {
+    → FoundsFolder disks today init old new outcome
+    → Founds disks told init (around_of left written old market) (around_of left written new market) outcome
+founds disks told init left written old new market outcome today day founded = record {
   today = today;
   day = day;
   founded = founded;

@@ -77,11 +77,11 @@ abbrev pub IsToday : Option ℕ → ℕ → Type 0
 IsToday told today = (first_day ≤ today) × (today ≤ last_day) × IfSome told (λ day. today ≡ day)
 
 -- `init`, on a day of the clock. It reads no input and writes no answers.
-pub record Founds {D G : Type 0} (told : Option ℕ) (init : Init) (old new : Around D G)
+pub record Founds {D G : Type 0} (disks : DiskTold D) (told : Option ℕ) (init : Init) (old new : Around D G)
     (outcome : Result (Unit {0}) Stop) : Type 0 where
   pub today : ℕ
   pub day : IsToday told today
-  pub founded : FoundsFolder today init old.vault new.vault outcome
+  pub founded : FoundsFolder disks today init old.vault new.vault outcome
   pub unread : Keeps old.left new.left
   pub unwritten : Keeps old.written new.written
   pub market : new.market ≡ old.market
@@ -106,7 +106,7 @@ pub record Makes {D G : Type 0} (make : Make) (old new : Around D G) (outcome : 
 abbrev pub Does : {D G C : Type 0} → Outside D G C → (G → List ℕ → ℕ → Type 0) → C → Around D G → Around D G
     → Result (Unit {0}) Stop → Option Words → Type 0
 Does outside serves clock old new outcome (Some (words.Init init)) =
-    Founds (outside.day clock) init old new outcome
+    Founds outside.disks (outside.day clock) init old new outcome
 Does outside serves clock old new outcome (Some (words.Apply apply)) =
     AppliesBy outside serves apply.dir clock old new outcome (gateway_of apply.gateway)
 Does outside serves clock old new outcome (Some (words.Report report)) =

@@ -116,7 +116,7 @@ fn init_on<V: Vault, C: Clock>(
     clock: &C,
 ) -> Result<(), Stop>
     requires inside { (lane : ℕ) → (V.told vault.old).is_out init.now.dir lane ≡ false }
-    ensures { (today : ℕ) × IsToday (C.day clock.now) today × FoundsFolder today init.now
+    ensures { (today : ℕ) × IsToday (C.day clock.now) today × FoundsFolder V.Disk.told today init.now
         (V.told vault.old)
         (V.told vault.new) result }
 {

@@ -7,7 +7,7 @@ use Rattle.kb_runs.specs.Reading.{Known}
 use Rattle.kb_runs.specs.declared.stop.Stop.{Stop}
 use Rattle.kb_apply.specs.Applying.{Applies}
 use Rattle.kb_apply.specs.LaneRuns.{LanesValue, Outside, lanes_machine}
-use Rattle.kb_folder.specs.Openings.{AreBack, AskedOnceEach, GatewaysAreBack}
+use Rattle.kb_folder.specs.Openings.{AreBack, AskedOnceEach, GatewaysAreBack, HaveAttemptsEach}
 
 -- The lines of the input are answered by lanes that are open, and their disks and gateways are given back.
 pub record RunsOpen {D G C : Type 0} (outside : Outside D G C) (folder : List â„•)
@@ -20,3 +20,4 @@ pub record RunsOpen {D G C : Type 0} (outside : Outside D G C) (folder : List â„
   pub back : AreBack outside.disks folder old new last.lanes
   pub gateways_back : GatewaysAreBack market market_after last.lanes
   pub once : AskedOnceEach (payments_asked outside.gateways) last.lanes
+  pub attempts : HaveAttemptsEach last.lanes

@@ -17,7 +17,7 @@ pub fn init_folder<V: Vault>(
     init: &Init,
 ) -> Result<(), Stop>
     requires inside { (lane : ℕ) → (V.told vault.old).is_out init.now.dir lane ≡ false }
-    ensures { FoundsFolder today init.now
+    ensures { FoundsFolder V.Disk.told today init.now
         (V.told vault.old)
         (V.told vault.new) result }
 {

@@ -9,7 +9,7 @@ use std::test::Fail;
 /// The bytes of a folder's lane 0 and of its lane 1, and the last output line of a run over lines.
 type Folder = (&'static [u8], &'static [u8], &'static str);
 
-static FOLDERS: [Folder; 13] = [
+static FOLDERS: [Folder; 14] = [
     (b"", b"", "billd: journal 0 0\n"),
     (
         b"KBJRNL01\x00\x01\x00\x00\x00\x00\x00\x00",
@@ -60,6 +60,11 @@ static FOLDERS: [Folder; 13] = [
         b"KBJRNL01\x00\x02\x00\x00\x00\x00\x00\x00\x00",
         b"KBJRNL01\x00\x03\x00\x01\x00\x00\x00\x00\x00",
         "billd: journal 1 8\n",
+    ),
+    (
+        b"KBJRNL01\x00\x02\x00\x00\x00\x00\x00\x00\x00",
+        b"KBJRNL01\x00\x03\x00\x01\x00\x00\x00\x00\x01",
+        "billd: journal 1 16\n",
     ),
     (
         b"KBJRNL01\x00\x02\x00\x00\x00\x00\x00\x00\x00",

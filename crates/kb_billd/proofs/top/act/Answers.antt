@@ -3,7 +3,7 @@ use Rattle.kb_billd.proofs.Untouched.{founds, makes, reports}
 use Rattle.kb_billd.proofs.top.act.Goals as goal
 
 pub returns-in-Init-clause-does : goal.returns-in-Init-clause-does
-returns-in-Init-clause-does g c = rw c.in-Init.is (founds (g.C.Clock.day c.args.clock) c.in-Init.init
+returns-in-Init-clause-does g c = rw c.in-Init.is (founds g.V.Disk.Disk.told (g.C.Clock.day c.args.clock) c.in-Init.init
     (g.I.Source.left c.args.input.now)
     (g.O.Sink.written c.args.output.now) (g.V.Vault.told c.args.vault.now)
     (g.V.Vault.told c.init_on.new.vault)
@@ -11,13 +11,13 @@ returns-in-Init-clause-does g c = rw c.in-Init.is (founds (g.C.Clock.day c.args.
     c.init_on.ensures.2)
 
 pub returns-in-Init-clause-input : goal.returns-in-Init-clause-input
-returns-in-Init-clause-input g c = λ is. absurd (founding_no_input c.init_on.ensures.0 c.in-Init.init
+returns-in-Init-clause-input g c = λ is. absurd (founding_no_input g.V.Disk.Disk.told c.init_on.ensures.0 c.in-Init.init
     (g.V.Vault.told c.args.vault.now)
     (g.V.Vault.told c.init_on.new.vault)
     c.init_on.result c.init_on.ensures.2 is)
 
 pub returns-in-Init-clause-output : goal.returns-in-Init-clause-output
-returns-in-Init-clause-output g c = λ is. absurd (founding_no_output c.init_on.ensures.0 c.in-Init.init
+returns-in-Init-clause-output g c = λ is. absurd (founding_no_output g.V.Disk.Disk.told c.init_on.ensures.0 c.in-Init.init
     (g.V.Vault.told c.args.vault.now)
     (g.V.Vault.told c.init_on.new.vault)
     c.init_on.result c.init_on.ensures.2 is)

@@ -2,7 +2,7 @@ use Rattle.std.proofs.Common.{◌≤◌, ◌<◌, ap, length, subst, sym, ◌∙
 use Rattle.kb_gateway.specs.Told.{payments_asked}
 use Rattle.kb_apply.specs.Applying.{Applies}
 use Rattle.kb_apply.specs.LaneRuns.{outside_of, lanes_machine}
-use Rattle.kb_folder.specs.Openings.{AreBack, AskedOnceEach, GatewaysAreBack}
+use Rattle.kb_folder.specs.Openings.{AreBack, AskedOnceEach, GatewaysAreBack, HaveAttemptsEach}
 use Rattle.kb_billd.proofs.Applied.{as_many, begun_is}
 use Rattle.kb_billd.proofs.command.apply.run_open.Goals as goal
 
@@ -47,4 +47,5 @@ returns-clause-ran g c = record {
       (g.M.Market.told c.put_back.new.market)) c.into_lanes.ensures c.put_back.ensures.gateways;
   once = subst (AskedOnceEach (payments_asked g.M.Gateway.Gateway.told)) c.into_lanes.ensures
       c.put_back.ensures.once;
+  attempts = subst HaveAttemptsEach c.into_lanes.ensures c.put_back.ensures.attempts;
 }

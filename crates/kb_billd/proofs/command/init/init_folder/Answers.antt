@@ -20,8 +20,11 @@ returns g c = record {
   refused = rw (c.as_str-2.ensures, c.as_str-3.ensures) at c.found_lanes.ensures.refused;
   unharmed = rw (c.as_str.ensures, c.get.ensures.value, c.as_str-2.ensures, c.as_str-3.ensures)
       at c.found_lanes.ensures.unharmed;
+  crash = rw (c.as_str.ensures, c.get.ensures.value, c.as_str-2.ensures, c.as_str-3.ensures)
+      at c.found_lanes.ensures.moments;
   counted = c.found_lanes.ensures.counted;
   others = rw (c.as_str.ensures, c.get.ensures.value) at c.found_lanes.ensures.others;
+  others_back = rw (c.as_str.ensures, c.get.ensures.value) at c.found_lanes.ensures.others_back;
   inside = c.found_lanes.ensures.same_out;
   files = c.found_lanes.ensures.same_files;
 }
