@@ -50,7 +50,7 @@ rows-with_invoice : (invoices : InvoicesValue) (today : ℕ) (lines : List Line)
 rows-with_invoice invoices today [] = omega arith
 rows-with_invoice invoices today (line ∷ later) = length-append invoices.rows _
 
-rows-billed : (payments : PaymentsValue) (invoices : InvoicesValue) (today : ℕ) (lines : List Line)
+pub rows-billed : (payments : PaymentsValue) (invoices : InvoicesValue) (today : ℕ) (lines : List Line)
     → length (billed_rows payments invoices today lines).rows ≡ length invoices.rows + invoices_of lines
 rows-billed payments invoices today lines =
     length-levelled (with_paid payments (with_invoice invoices today lines))

@@ -5,10 +5,12 @@ mod AskedPlans
 pub mod BegunAttempts
 pub mod BilledBooks
 pub mod BilledNow
+mod BookAtHand
 mod BookSteps
 mod BookWork
 pub mod BoundedBooks
 mod CountedInvoices
+mod DueCases
 pub mod DueNews
 pub mod EvenNow
 pub mod FoundEntries
@@ -42,3 +44,4 @@ pub mod TakenWork
 mod TextSteps
 mod ToldReplies
 mod TotalledBooks
+pub mod WorkAtHand

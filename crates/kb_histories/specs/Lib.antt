@@ -24,3 +24,4 @@ pub mod Settlements
 pub mod Shown
 pub mod SmallMachines
 pub mod Stays
+pub mod WorkAtHand

@@ -3,6 +3,8 @@ ghost use Rattle.kb_histories.specs.BilledMachines.{BooksStayBilled, ReplaysAreB
 ghost use Rattle.kb_histories.specs.DueWork.{DueCommandsTakeWork};
 ghost use Rattle.kb_histories.specs.SettledWork.{SettlementsAddNoWork};
 ghost use Rattle.kb_histories.specs.NamedWork.{FewerNamesHaveNoMore, WorkIsBounded};
+ghost use Rattle.kb_histories.specs.WorkAtHand.{DueCommandsTakeAtHand, SettlementsAddInvoices};
+ghost use Rattle.kb_histories.specs.WorkAtHand.{AtHandIsBounded};
 
 /// Books stay billed, by the texts that there were at their last command.
 pub fn books_are_billed()
@@ -24,4 +26,12 @@ pub fn settlements_add_no_work()
 pub fn work_is_bounded()
     ensures fewer { FewerNamesHaveNoMore }
     ensures bounded { WorkIsBounded }
+{}
+
+/// The command that an account asks for by itself takes as much off the work at hand as it leaves to do, and
+/// a settlement adds none, except for an invoice that they issue; and the work at hand is bounded.
+pub fn work_at_hand_is_bounded()
+    ensures due { DueCommandsTakeAtHand }
+    ensures settled { SettlementsAddInvoices }
+    ensures bounded { AtHandIsBounded }
 {}

@@ -21,7 +21,8 @@ pub use accounts::{own_commands_reply, own_commands_suffice};
 pub use attempts::{attempts_begin, attempts_stay, settlements_settle};
 pub use books::{books_are_named, due_commands_are_new, keys_are_apart};
 pub use drains::{
-    books_are_billed, due_commands_take_work, settlements_add_no_work, work_is_bounded,
+    books_are_billed, due_commands_take_work, settlements_add_no_work, work_at_hand_is_bounded,
+    work_is_bounded,
 };
 pub use invoices::{invoices_add_up, items_are_only_added, items_are_shown};
 pub use machines::{

@@ -43,7 +43,8 @@ use Rattle.kb_lane.specs.Draining.{due_in, due_of, with_outbox, Looks, Orders, A
 use Rattle.kb_lane.specs.LaneWork.{entry_work, account_in, is_named, lane_work}
 
 -- what a command leaves to do takes as many steps
-left-work : (today : ℕ) (command : Command) → sum_by entry_work (work_of (today, command)) ≡ work_left command
+pub left-work : (today : ℕ) (command : Command)
+    → sum_by entry_work (work_of (today, command)) ≡ work_left command
 left-work today (kinds.Catalog c) = refl
 left-work today (kinds.OverdueRules c) = refl
 left-work today (kinds.Act account key (actions.Pay c)) = refl
@@ -88,10 +89,10 @@ or-cases true other P first second is = first refl
 or-cases false other P first second is = second is
 
 module _ (front : Work) (later : List Work) (account : List ℕ) where
-  later-named : is_named later account ≡ true → is_named (front ∷ later) account ≡ true
+  pub later-named : is_named later account ≡ true → is_named (front ∷ later) account ≡ true
   later-named is = or-right (bytes_eq account (account_in front)) (is_named later account) is
 
-  after-named : (today : ℕ) (command : Command) → account_of command ≡ account_in front
+  pub after-named : (today : ℕ) (command : Command) → account_of command ≡ account_in front
       → is_named (later ++ work_of (today, command)) account ≡ true → is_named (front ∷ later) account ≡ true
   after-named today command same is =
       or-cases (is_named later account) (is_named (work_of (today, command)) account)
@@ -107,7 +108,7 @@ module _ (front : Work) (later : List Work) (account : List ℕ) where
 
 module _ {D G : Type 0} (old new : LaneValue D G) (today : ℕ) (front : Work) (later : List Work)
     (first : old.outbox ≡ front ∷ later) where
-  front-work : sum_by entry_work old.outbox ≡ entry_work front + sum_by entry_work later
+  pub front-work : sum_by entry_work old.outbox ≡ entry_work front + sum_by entry_work later
   front-work = ap (λ outbox. sum_by entry_work outbox) first ∙ sum_by-cons entry_work front later
 
   -- the front is off, and nothing is written down
@@ -156,7 +157,7 @@ module _ {D G : Type 0} (old new : LaneValue D G) (today : ℕ) (front : Work) (
           omega (arith, parts, grown, fewer, less)
 
 -- the command that settles a payment by an answer is its settlement to a status
-settled-is : (account key : List ℕ) (answer : Result Told Failed) (command : Command)
+pub settled-is : (account key : List ℕ) (answer : Result Told Failed) (command : Command)
     → settled_by account key answer ≡ Some command
     → (to : Status) × (kinds.Settle (record { account = account; payment = key; status = to }) ≡ command)
 settled-is account key (Ok told.Processed) command is = (status.Success, cc)

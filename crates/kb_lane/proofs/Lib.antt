@@ -2,6 +2,7 @@ mod Asking
 mod BillKeys
 mod BilledAccounts
 pub mod Choices
+mod DrainBounds
 mod Freed
 pub mod Going
 mod Grows

@@ -8,7 +8,7 @@ use Rattle.kb_lane.specs.LaneWork.{entry_work, is_named}
 use Rattle.kb_lane.specs.WorkBounds.{LaneWorkIsBounded}
 
 -- no entry takes more than two steps
-entries-few : (outbox : List Work) → sum_by entry_work outbox ≤ 2 * length outbox
+pub entries-few : (outbox : List Work) → sum_by entry_work outbox ≤ 2 * length outbox
 entries-few [] = omega arith
 entries-few (Check account ∷ later) = omega (
   arith,

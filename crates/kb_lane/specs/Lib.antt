@@ -1,5 +1,6 @@
 pub mod Asking
 pub mod Bills
+pub mod DrainBounds
 pub mod Draining
 pub mod Drains
 pub mod Going

@@ -12,6 +12,7 @@
 mod accept;
 mod bill_work;
 mod bills;
+mod drain_bounds;
 mod draining;
 mod drains;
 mod janitor;
@@ -30,6 +31,7 @@ mod written;
 
 pub use bill_work::lane_work_is_bounded;
 pub use bills::bill;
+pub use drain_bounds::drains_are_bounded;
 pub use drains::drain;
 pub use lane::Lane;
 pub use payload::payload_of;
